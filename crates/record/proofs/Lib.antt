@@ -1,0 +1,5 @@
+pub mod Seeking
+pub mod Cutting
+pub mod Fronts
+pub mod Refilling
+pub mod ClassLaws

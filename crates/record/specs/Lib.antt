@@ -1,0 +1,9 @@
+pub mod Kinds
+pub mod Layouts
+pub mod Reserve
+pub mod Editions
+pub mod Classes
+pub mod Lines
+pub mod Refusals
+pub mod Rows
+pub mod Laws

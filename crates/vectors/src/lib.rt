@@ -1,0 +1,7 @@
+// Examples of the rules, run as tests.
+#[cfg(test)]
+mod fields;
+#[cfg(test)]
+mod files;
+#[cfg(test)]
+mod records;
