@@ -82,8 +82,8 @@ fn run(rt: &LibcRuntime, args: &Vec<String>) -> Result<(), AnyError> {
         return not_run(rt, command, "no such command");
     }
     match edition_asked(args) {
-        Some(edition) if args.len() >= 2 => read(rt, args[1].as_str(), edition),
-        _ => not_run(rt, command, USAGE),
+        Some(edition) => read(rt, args[1].as_str(), edition),
+        None => not_run(rt, command, USAGE),
     }
 }
 

@@ -1,6 +1,10 @@
 // The words of a command.
 ghost use mathlib.Core.Path.{_≡_};
+ghost use mathlib.Core.Bool.{true};
+ghost use Prim.Native.Nat.{_≤_};
 ghost use lib.Chars.{codes};
+ghost use Rattle.std.specs.Of.Vec.{vec-len};
+ghost use Rattle.std.specs.Options.{isSome};
 ghost use Rattle.std.specs.declared.option.Option.the-variants.{Some, None};
 ghost use Rattle.tifrozel.specs.declared.words.EditionName.the-variants.{Bare, House};
 
@@ -22,7 +26,9 @@ fn edition_named(word: &str) -> Option<EditionName>
 }
 
 // The edition that `COMMAND FILE [under EDITION]` asks for; none where the words are not so put.
-pub fn edition_asked(args: &Vec<String>) -> Option<EditionName> {
+pub fn edition_asked(args: &Vec<String>) -> Option<EditionName>
+    ensures { λ r. ⌜ (isSome r ≡ true → 2 ≤ vec-len (now (args .entry))) ⌝ }
+{
     if args.len() == 2 {
         return Some(EditionName::House);
     }

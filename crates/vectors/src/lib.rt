@@ -5,3 +5,7 @@ mod fields;
 mod files;
 #[cfg(test)]
 mod records;
+#[cfg(test)]
+mod shelf;
+#[cfg(test)]
+mod sums;

@@ -1,0 +1,4 @@
+pub mod Eighties
+pub mod Flat
+pub mod PairCalls
+pub mod Calls
