@@ -15,9 +15,9 @@ use Rattle.record.specs.Classes.{class-of}
 use Rattle.record.specs.Editions.{Meaning}
 use Rattle.record.specs.Lines.{cut, width}
 use Rattle.record.specs.Refusals.{sound}
-use Rattle.file.specs.declared.faults.Cause.{Cause}
-use Rattle.file.specs.declared.faults.Cause.the-variants.{Broken, Unreadable}
-use Rattle.file.specs.declared.faults.FileFault.{FileFault}
+use Rattle.manual.specs.declared.faults.Cause.{Cause}
+use Rattle.manual.specs.declared.faults.Cause.the-variants.{Broken, Unreadable}
+use Rattle.manual.specs.declared.faults.FileFault.{FileFault}
 use Rattle.file.specs.declared.single.One.{One}
 
 -- the record whose line has w bytes, or why it cannot be read

@@ -1,9 +1,11 @@
-// A file of records: its lines, read one by one.
-mod faults;
+// A file of records in code: its lines, the judge, and checking.
+mod checking;
+mod judge;
+mod order;
+mod payers;
 mod single;
 
-pub use faults::Cause;
-pub use faults::FileFault;
-pub use faults::refusal_of_file;
+pub use checking::check;
+pub use judge::Judge;
 pub use single::One;
 pub use single::read_one;

@@ -1,6 +1,8 @@
 ghost use mathlib.Core.Path.{_≡_};
-ghost use Rattle.record.specs.Refusals.{sound as soundTerm, refusal-of};
+ghost use Rattle.record.specs.declared.faults.RecordFault.the-variants.{Layout};
+ghost use Rattle.record.specs.Refusals.{sound as soundTerm, fields-read, refusal-of};
 use crate::classes::Class;
+use crate::fields::Core;
 use crate::fields::Field;
 use refusal::Layer;
 use refusal::Place;
@@ -13,6 +15,21 @@ pub enum RecordFault {
     Code,
     // this field breaks the layout
     Layout(Field),
+}
+
+pub impl From<Field> for RecordFault as RecordFaultFromField {
+    ghost converts = { λ e r. r ≡ Layout e };
+
+    fn from(e: Field) -> RecordFault {
+        RecordFault::Layout(e)
+    }
+}
+
+// The fields of a core record, unless one breaks its layout.
+pub fn fields_read(read: Result<Core, Field>) -> Result<Core, RecordFault>
+    ensures { λ r. ⌜ r ≡ fields-read read ⌝ }
+{
+    Ok(read?)
 }
 
 // The class, unless the record cannot be read.

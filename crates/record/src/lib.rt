@@ -19,6 +19,7 @@ pub use editions::House;
 pub use editions::HouseEdition;
 pub use editions::Level;
 pub use faults::RecordFault;
+pub use faults::fields_read;
 pub use faults::refusal;
 pub use faults::sound;
 pub use fields::Core;

@@ -13,7 +13,7 @@ use Rattle.std.specs.declared.result.Result.the-variants.{Ok, Err}
 use Rattle.std.proofs.shelf.Lists.{nil-from-length}
 use Rattle.std.proofs.shelf.Tests.{eqb-true, eqb-false}
 use Rattle.record.specs.Editions.{Meaning}
-use Rattle.file.specs.declared.faults.FileFault.{FileFault}
+use Rattle.manual.specs.declared.faults.FileFault.{FileFault}
 use Rattle.file.specs.declared.single.One.{One}
 use Rattle.file.specs.Single.{at-number, one-of, Listed, done, stop, next}
 

@@ -1,12 +1,14 @@
 // The words of a command.
 ghost use mathlib.Core.Path.{_≡_};
 ghost use mathlib.Core.Bool.{true};
-ghost use Prim.Native.Nat.{_≤_};
+ghost use Prim.Native.Nat.{_+_, _≤_};
 ghost use lib.Chars.{codes};
 ghost use Rattle.std.specs.Of.Vec.{vec-len};
-ghost use Rattle.std.specs.Options.{isSome};
+ghost use Rattle.std.specs.Options.{isSome, Cases};
 ghost use Rattle.std.specs.declared.option.Option.the-variants.{Some, None};
 ghost use Rattle.tifrozel.specs.declared.words.EditionName.the-variants.{Bare, House};
+use std::alloc::AllocError;
+use std::alloc::Global;
 
 #[derive(Clone, Copy)]
 pub enum EditionName {
@@ -25,15 +27,69 @@ fn edition_named(word: &str) -> Option<EditionName>
     }
 }
 
-// The edition that `COMMAND FILE [under EDITION]` asks for; none where the words are not so put.
-pub fn edition_asked(args: &Vec<String>) -> Option<EditionName>
-    ensures { λ r. ⌜ (isSome r ≡ true → 2 ≤ vec-len (now (args .entry))) ⌝ }
+// The edition that `COMMAND FILE [under EDITION]` asks for, where the command stands at `at`; none where the words are
+// not so put.
+pub fn edition_asked(args: &Vec<String>, at: usize) -> Option<EditionName>
+    ensures { λ r. ⌜ (isSome r ≡ true → at + 2 ≤ vec-len (now (args .entry))) ⌝ }
 {
-    if args.len() == 2 {
-        return Some(EditionName::House);
+    if args.len() <= at {
+        return None;
     }
-    if args.len() == 4 && args[2].as_str() == "under" {
-        return edition_named(args[3].as_str());
+    match args.len() - at {
+        2 => Some(EditionName::House),
+        4 if args[at + 2].as_str() == "under" => edition_named(args[at + 3].as_str()),
+        _ => None,
     }
-    None
+}
+
+// No file has more payers than records.
+const MOST_PAYERS: usize = 50_000;
+
+#[derive(Clone, Copy)]
+pub struct Options {
+    // rows of the payer table
+    pub payers: usize,
+    // where the command stands
+    pub at: usize,
+}
+
+// What stands before the command; none where it is not `--payers N`.
+pub fn options_asked(args: &Vec<String>) -> Option<Options>
+    ensures { λ r. ⌜ Cases r (Unit {0}) (λ o. (o .payers ≤ 50000) × (o .at + 1 ≤ vec-len (now (args .entry)))) ⌝ }
+{
+    if args.is_empty() {
+        return None;
+    }
+    if args[0].as_str() != "--payers" {
+        return Some(Options {
+            payers: MOST_PAYERS,
+            at: 0,
+        });
+    }
+    if args.len() < 3 {
+        return None;
+    }
+    match args[1].as_str().parse::<usize>() {
+        Ok(n) => Some(Options {
+            payers: n.min(MOST_PAYERS),
+            at: 2,
+        }),
+        Err(_) => None,
+    }
+}
+
+// The words of a line, parted by blanks.
+pub fn words_of(heap: Global, line: &str) -> Result<Vec<String>, AllocError> {
+    let mut words = Vec::new(heap);
+    for word in line.split_whitespace() {
+        words.push(String::from_str(heap, word)?)?;
+    }
+    Ok(words)
+}
+
+// Whether a line asks for nothing: it has no words, or begins with `#`.
+pub fn is_passed_over(words: &Vec<String>) -> bool
+    ensures { λ r. ⌜ (vec-len (now (words .entry)) ≡ 0 → r ≡ true) ⌝ }
+{
+    words.is_empty() || words[0].as_str().starts_with('#')
 }

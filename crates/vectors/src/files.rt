@@ -1,6 +1,6 @@
 // Records of a file one by one, with the refusal where one cannot be read by itself.
 use file::read_one;
-use file::refusal_of_file;
+use manual::refusal_of_file;
 use record::House;
 use record::HouseEdition;
 use refusal::RefusalDisplay;

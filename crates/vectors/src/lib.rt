@@ -1,5 +1,7 @@
 // Examples of the rules, run as tests.
 #[cfg(test)]
+mod checks;
+#[cfg(test)]
 mod fields;
 #[cfg(test)]
 mod files;

@@ -1,0 +1,4 @@
+pub mod Refusals
+pub mod Slots
+pub mod Judging
+pub mod Laws
