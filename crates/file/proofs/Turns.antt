@@ -21,7 +21,8 @@ use Rattle.manual.specs.Judging.{State, line-step, at-record, judge, check-of}
 use Rattle.manual.specs.Slots.{slots}
 use Rattle.manual.proofs.Walking.{judged-end, judged-many, judged-stop, judged-on}
 use Rattle.std.specs.Vec.{made}
-use Rattle.file.specs.Judges.{with-payers, numbered, outcome}
+use Rattle.file.specs.Judges.{with-payers, outcome}
+use Rattle.file.specs.Numbering.{numbered}
 
 pub some-left : (bs : List ℕ) → false ≡ eqb (length bs) 0 → 0 < length bs
 some-left bs e = omega (arith, eqb-false (length bs) 0 (sym e))

@@ -9,7 +9,6 @@ use Rattle.sums.specs.Table.{capped}
 use Rattle.record.specs.declared.fields.Transfer.{Transfer}
 use Rattle.record.specs.declared.fields.Core.{Core}
 use Rattle.manual.specs.declared.faults.Cause.{Cause}
-use Rattle.manual.specs.declared.faults.FileFault.{FileFault}
 use Rattle.manual.specs.declared.places.Rules.{Rules}
 use Rattle.manual.specs.Judging.{Mode, State, content, first, counts-after, section-after, item-after}
 use Rattle.file.specs.declared.judge.Judge.{Judge}
@@ -59,8 +58,3 @@ taken-in mode s c = first (content mode s c) (record {
 -- payers judged, with a table of so many rows
 abbrev pub with-payers : ℕ → Mode
 with-payers cap = record { judged = true; cap = cap }
-
--- an answer whose cause, if it is refused, is one of the record with number n
-abbrev pub numbered : {A : Type 0} → ℕ → Result A Cause → Result A FileFault
-numbered n (Ok x) = Ok x
-numbered n (Err c) = Err (record { number = n; cause = c })

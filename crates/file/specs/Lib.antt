@@ -1,2 +1,3 @@
 pub mod Judges
+pub mod Numbering
 pub mod Single

@@ -19,6 +19,7 @@ use Rattle.manual.specs.declared.faults.Cause.{Cause}
 use Rattle.manual.specs.declared.faults.Cause.the-variants.{Broken, Unreadable}
 use Rattle.manual.specs.declared.faults.FileFault.{FileFault}
 use Rattle.file.specs.declared.single.One.{One}
+use Rattle.file.specs.Numbering.{numbered}
 
 -- the record whose line has w bytes, or why it cannot be read
 abbrev pub with-width : ℕ → Result Class RecordFault → Result One Cause
@@ -34,14 +35,9 @@ on-line m bs (Some end) = with-width (width end) (sound (class-of m (between 0 8
 abbrev pub one-of : Meaning → List ℕ → Result One Cause
 one-of m bs = on-line m bs (cut bs)
 
--- the same, with its number in the file where it is refused
-abbrev pub at-number : ℕ → Result One Cause → Result One FileFault
-at-number n (Ok one) = Ok one
-at-number n (Err cause) = Err (record { number = n; cause = cause })
-
 -- reading record by record from the bytes, of which n records stand before: how many can be read, and what then ends it before the end of the bytes
 pub data Listed (m : Meaning) : ℕ → List ℕ → ℕ → Option FileFault → Type 0 where
   done : (n : ℕ) → Listed m n [] n None
-  stop : (n : ℕ) (bs : List ℕ) (f : FileFault) → 0 < length bs → at-number (n + 1) (one-of m bs) ≡ Err f → Listed m n bs n (Some f)
-  next : (n : ℕ) (bs : List ℕ) (one : One) (k : ℕ) (end : Option FileFault) → 0 < length bs → at-number (n + 1) (one-of m bs) ≡ Ok one
+  stop : (n : ℕ) (bs : List ℕ) (f : FileFault) → 0 < length bs → numbered (n + 1) (one-of m bs) ≡ Err f → Listed m n bs n (Some f)
+  next : (n : ℕ) (bs : List ℕ) (one : One) (k : ℕ) (end : Option FileFault) → 0 < length bs → numbered (n + 1) (one-of m bs) ≡ Ok one
       → Listed m (n + 1) (drop (one .width) bs) k end → Listed m n bs k end

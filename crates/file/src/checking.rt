@@ -9,8 +9,9 @@ ghost use Rattle.std.specs.declared.option.Option.the-variants.{Some};
 ghost use Rattle.record.specs.Lines.{cut as cutTerm, width as widthTerm};
 ghost use Rattle.manual.specs.Judging.{line-step, check-of};
 ghost use Rattle.manual.specs.Laws.{CheckLaws};
-ghost use Rattle.file.specs.Judges.{mode-of, held-by, outcome, numbered, with-payers};
+ghost use Rattle.file.specs.Judges.{mode-of, held-by, outcome, with-payers};
 use crate::judge::Judge;
+use crate::numbering::at_record;
 use crate::order::ended;
 use manual::Cause;
 use manual::FileFault;
@@ -51,16 +52,6 @@ fn turn<E: Edition>(
     };
     judge.step(classify(&bytes[0..80], edition), rules, rows, used)?;
     Ok(width(end))
-}
-
-// A cause becomes a fault of the file at the record with this number.
-fn at_record(number: usize, judged: Result<usize, Cause>) -> Result<usize, FileFault>
-    ensures { λ r. ⌜ r ≡ numbered number judged ⌝ }
-{
-    match judged {
-        Ok(width) => Ok(width),
-        Err(cause) => Err(FileFault { number, cause }),
-    }
 }
 
 // The counts of the end record, or the first refusal. What the table of payers holds afterwards is not fixed.

@@ -1,6 +1,7 @@
 // A file of records in code: its lines, the judge, and checking.
 mod checking;
 mod judge;
+mod numbering;
 mod order;
 mod payers;
 mod single;

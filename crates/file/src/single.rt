@@ -2,7 +2,9 @@ ghost use mathlib.Core.Path.{_≡_};
 ghost use Prim.Native.Nat.{_<_, _≤_};
 ghost use lib.ListN.{length};
 ghost use Rattle.std.specs.Vec.{made};
-ghost use Rattle.file.specs.Single.{one-of, at-number};
+ghost use Rattle.file.specs.Numbering.{numbered};
+ghost use Rattle.file.specs.Single.{one-of};
+use crate::numbering::at_record;
 use manual::Cause;
 use manual::CauseFromRecord;
 use manual::FileFault;
@@ -37,11 +39,8 @@ fn first_record<E: Edition>(bytes: &[u8], edition: &E) -> Result<One, Cause>
 
 // The first record of these bytes, read by itself, where it has this number in its file.
 pub fn read_one<E: Edition>(bytes: &[u8], number: usize, edition: &E) -> Result<One, FileFault>
-    ensures value { λ r. ⌜ r ≡ at-number number (one-of (meaning (now (edition .entry))) (now (bytes .entry))) ⌝ }
+    ensures value { λ r. ⌜ r ≡ numbered number (one-of (meaning (now (edition .entry))) (now (bytes .entry))) ⌝ }
     ensures within { λ r. ⌜ made r (λ one. (80 < one .width) × (one .width ≤ length (now (bytes .entry)))) ⌝ }
 {
-    match first_record(bytes, edition) {
-        Ok(one) => Ok(one),
-        Err(cause) => Err(FileFault { number, cause }),
-    }
+    at_record(number, first_record(bytes, edition))
 }

@@ -3,28 +3,31 @@ use Prim.Native.Nat.{ℕ}
 use Rattle.refusal.specs.declared.Refusal.{Refusal}
 use Rattle.refusal.specs.declared.Layer.the-variants.{File}
 use Rattle.refusal.specs.declared.Place.the-variants.{Record}
-use Rattle.record.specs.declared.faults.RecordFault.the-variants.{Code, Layout}
+use Rattle.record.specs.Refusals.{refusal-of}
 use Rattle.manual.specs.declared.faults.Cause.{Cause}
 use Rattle.manual.specs.declared.faults.Cause.the-variants.{Broken, Unreadable, Order, UnlikeItem, Information, NoPlace, PayerOwes, Deposit, Counts, TooMany, Unfinished, RiderIllFormed, RiderLevel}
 use Rattle.manual.specs.declared.faults.FileFault.{FileFault}
 
--- the number of each cause
-abbrev pub number-of-cause : Cause → ℕ
-number-of-cause Broken = 1
-number-of-cause (Unreadable Code) = 2
-number-of-cause Order = 3
-number-of-cause (Unreadable (Layout f)) = 4
-number-of-cause UnlikeItem = 5
-number-of-cause Information = 6
-number-of-cause NoPlace = 7
-number-of-cause PayerOwes = 8
-number-of-cause Deposit = 9
-number-of-cause Counts = 10
-number-of-cause TooMany = 11
-number-of-cause Unfinished = 12
-number-of-cause RiderIllFormed = 13
-number-of-cause RiderLevel = 14
+-- a refusal of this layer at record n
+abbrev pub at-file : ℕ → ℕ → Refusal
+at-file n number = record { number = number; layer = File; place = Record n }
 
--- number, layer and place of a file's refusal
+-- number, layer and place of each cause at record n; a record's own faults keep theirs
+abbrev pub cause-refusal : ℕ → Cause → Refusal
+cause-refusal n Broken = at-file n 1
+cause-refusal n (Unreadable e) = refusal-of n e
+cause-refusal n Order = at-file n 3
+cause-refusal n UnlikeItem = at-file n 5
+cause-refusal n Information = at-file n 6
+cause-refusal n NoPlace = at-file n 7
+cause-refusal n PayerOwes = at-file n 8
+cause-refusal n Deposit = at-file n 9
+cause-refusal n Counts = at-file n 10
+cause-refusal n TooMany = at-file n 11
+cause-refusal n Unfinished = at-file n 12
+cause-refusal n RiderIllFormed = at-file n 13
+cause-refusal n RiderLevel = at-file n 14
+
+-- what the refusal of a file tells
 abbrev pub file-refusal : FileFault → Refusal
-file-refusal fault = record { number = number-of-cause (fault .cause); layer = File; place = Record (fault .number) }
+file-refusal fault = cause-refusal (fault .number) (fault .cause)

@@ -1,6 +1,6 @@
 ghost use mathlib.Core.Path.{_≡_};
 ghost use Rattle.manual.specs.declared.faults.Cause.the-variants.{Unreadable};
-ghost use Rattle.manual.specs.Refusals.{number-of-cause, file-refusal};
+ghost use Rattle.manual.specs.Refusals.{file-refusal};
 use record::RecordFault;
 use refusal::Layer;
 use refusal::Place;
@@ -50,15 +50,14 @@ pub struct FileFault {
     pub cause: Cause,
 }
 
-// The number of a cause that is no fault of the record by itself.
-fn number(cause: Cause) -> u8
-    ensures { λ r. ⌜ r ≡ number-of-cause cause ⌝ }
+// What the refusal tells.
+pub fn refusal_of_file(fault: FileFault) -> Refusal
+    ensures { λ r. ⌜ r ≡ file-refusal fault ⌝ }
 {
-    match cause {
+    let number = match fault.cause {
+        Cause::Unreadable(e) => return record::refusal(e, fault.number),
         Cause::Broken => 1,
-        Cause::Unreadable(RecordFault::Code) => 2,
         Cause::Order => 3,
-        Cause::Unreadable(RecordFault::Layout(_)) => 4,
         Cause::UnlikeItem => 5,
         Cause::Information => 6,
         Cause::NoPlace => 7,
@@ -69,15 +68,9 @@ fn number(cause: Cause) -> u8
         Cause::Unfinished => 12,
         Cause::RiderIllFormed => 13,
         Cause::RiderLevel => 14,
-    }
-}
-
-// What the refusal tells.
-pub fn refusal_of_file(fault: FileFault) -> Refusal
-    ensures { λ r. ⌜ r ≡ file-refusal fault ⌝ }
-{
+    };
     Refusal {
-        number: number(fault.cause),
+        number,
         layer: Layer::File,
         place: Place::Record(fault.number),
     }
