@@ -2,6 +2,8 @@
 #[cfg(test)]
 mod checks;
 #[cfg(test)]
+mod examples;
+#[cfg(test)]
 mod fields;
 #[cfg(test)]
 mod files;
