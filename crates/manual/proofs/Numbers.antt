@@ -12,6 +12,7 @@ use Rattle.record.specs.Editions.{Meaning}
 use Rattle.manual.specs.declared.faults.Cause.{Cause}
 use Rattle.manual.specs.declared.faults.FileFault.{FileFault}
 use Rattle.manual.specs.Slots.{Slot, whole, broken, slots, wholes}
+use Rattle.manual.specs.Laws.{NotBefore}
 use Rattle.manual.specs.Judging.{Mode, State, slot-step, then-on, ended, begin, judge, check-of}
 
 -- a refusal, if it is one, names a record from low to high
@@ -38,6 +39,14 @@ module _ (mode : Mode) (m : Meaning) where
       cond-both (leb n 50000) _ _ (Named n (n + suc (wholes ss)))
       (λ e. stepped n (wholes ss) (slot-step mode m s (whole r)) (λ t. judge mode m (suc n) t ss) (named ss (suc n)))
       (λ e. (omega arith, omega arith))
+
+-- no refusal names a record before the one that judging starts at
+lower : (low high : ℕ) (r : Result End FileFault) → Named low high r → NotBefore low r
+lower low high (Ok e) h = tt
+lower low high (Err f) h = h .0
+
+pub not-before : (mode : Mode) (m : Meaning) (ss : List Slot) (n : ℕ) (s : State) → NotBefore n (judge mode m n s ss)
+not-before mode m ss n s = lower n (n + wholes ss) (judge mode m n s ss) (named mode m ss n s)
 
 pub number-within : (mode : Mode) (m : Meaning) (bs : List ℕ) (f : FileFault) → check-of mode m bs ≡ Err f → (1 ≤ f .number) × (f .number ≤ wholes (slots bs) + 1)
 number-within mode m bs f e =

@@ -24,6 +24,7 @@ use Rattle.manual.specs.declared.faults.Cause.the-variants as cause
 use Rattle.manual.specs.declared.faults.FileFault.{FileFault}
 use Rattle.manual.specs.Slots.{Slot, whole, broken, slots}
 use Rattle.manual.specs.Judging.{Mode, State, content, moved, core-tests, tests, first, step, begin, ended, at-record, then-on, slot-step, judge, check-of}
+use Rattle.manual.proofs.Numbers.{not-before}
 use Rattle.manual.specs.Laws.{of-payers, NotBefore, judging, not-judging}
 
 -- What riders and unknown records leave.
@@ -142,24 +143,6 @@ module _ (cap : ℕ) (s : State) where
   slot-beside m (whole r) = step-beside (class-of m r)
 
 -- The two machines over all slots.
-
-not-earlier : (n : ℕ) (r : Result End FileFault) → NotBefore (suc n) r → NotBefore n r
-not-earlier n (Ok e) h = tt
-not-earlier n (Err f) h = omega arith
-
--- a judge that starts at record n names no record before it
-pub not-before : (mode : Mode) (m : Meaning) (ss : List Slot) (n : ℕ) (s : State) → NotBefore n (judge mode m n s ss)
-not-before mode m [] n s =
-    elim (ended (s .place)) as (λ b. NotBefore n (cond b (Ok (s .counts)) (at-record n cause.Unfinished))) [ true ↦ tt | false ↦ omega arith ]
-not-before mode m (x ∷ xs) n s = by (leb n 50000) (slot-step mode m s x) (λ t. not-earlier n _ (not-before mode m xs (suc n) t))
-  where
-    go : State → Result End FileFault
-    go t = judge mode m (suc n) t xs
-
-    by : (b : Bool) (r : Result State Cause) → ((t : State) → NotBefore n (go t)) → NotBefore n (cond b (then-on r n go) (at-record n cause.TooMany))
-    by true (Ok t) h = h t
-    by true (Err c) h = omega arith
-    by false r h = omega arith
 
 -- the answers are equal, or the first is a refusal by payers and the second is no refusal before it
 abbrev ButForPayers : Result End FileFault → Result End FileFault → Type 0

@@ -29,7 +29,7 @@ use std::error::AnyError;
 use std::fs;
 use words::EditionName;
 use words::edition_asked;
-use words::is_passed_over;
+use words::is_comment;
 use words::options_asked;
 use words::words_of;
 
@@ -137,7 +137,10 @@ fn serve(rt: &LibcRuntime) -> Result<(), AnyError> {
     for line in rt.lines(heap) {
         let line = line?;
         let words = words_of(heap, line.as_str())?;
-        if !is_passed_over(&words) && run(rt, &words).is_err() {
+        if words.is_empty() || is_comment(line.as_str()) {
+            continue;
+        }
+        if run(rt, &words).is_err() {
             good = false;
         }
     }

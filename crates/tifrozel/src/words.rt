@@ -1,8 +1,10 @@
 // The words of a command.
 ghost use mathlib.Core.Path.{_≡_};
-ghost use mathlib.Core.Bool.{true};
+ghost use mathlib.Core.Bool.{true, _&&_};
 ghost use Prim.Native.Nat.{_+_, _≤_};
 ghost use lib.Chars.{codes};
+ghost use lib.Dec.{eqb, ltb};
+ghost use lib.ListN.{length, getD};
 ghost use Rattle.std.specs.Of.Vec.{vec-len};
 ghost use Rattle.std.specs.Options.{isSome, Cases};
 ghost use Rattle.std.specs.declared.option.Option.the-variants.{Some, None};
@@ -19,6 +21,7 @@ pub enum EditionName {
 fn edition_named(word: &str) -> Option<EditionName>
     ensures bare { λ r. ⌜ (r ≡ Some Bare → now (word .entry) ≡ codes "bare") ⌝ }
     ensures house { λ r. ⌜ (r ≡ Some House → now (word .entry) ≡ codes "house") ⌝ }
+    ensures other { λ r. ⌜ (r ≡ None → (now (word .entry) ≡ codes "bare" → ⊥) × (now (word .entry) ≡ codes "house" → ⊥)) ⌝ }
 {
     match word {
         "bare" => Some(EditionName::Bare),
@@ -30,7 +33,9 @@ fn edition_named(word: &str) -> Option<EditionName>
 // The edition that `COMMAND FILE [under EDITION]` asks for, where the command stands at `at`; none where the words are
 // not so put.
 pub fn edition_asked(args: &Vec<String>, at: usize) -> Option<EditionName>
-    ensures { λ r. ⌜ (isSome r ≡ true → at + 2 ≤ vec-len (now (args .entry))) ⌝ }
+    ensures words { λ r. ⌜ (isSome r ≡ true → at + 2 ≤ vec-len (now (args .entry))) ⌝ }
+    ensures unnamed { λ r. ⌜ (vec-len (now (args .entry)) ≡ at + 2 → r ≡ Some House) ⌝ }
+    ensures ill_put { λ r. ⌜ ((vec-len (now (args .entry)) ≡ at + 2 → ⊥) → (vec-len (now (args .entry)) ≡ at + 4 → ⊥) → r ≡ None) ⌝ }
 {
     if args.len() <= at {
         return None;
@@ -87,9 +92,10 @@ pub fn words_of(heap: Global, line: &str) -> Result<Vec<String>, AllocError> {
     Ok(words)
 }
 
-// Whether a line asks for nothing: it has no words, or begins with `#`.
-pub fn is_passed_over(words: &Vec<String>) -> bool
-    ensures { λ r. ⌜ (vec-len (now (words .entry)) ≡ 0 → r ≡ true) ⌝ }
+// Whether a line begins with `#`, and so asks for nothing.
+pub fn is_comment(line: &str) -> bool
+    ensures { λ r. ⌜ r ≡ (ltb 0 (length (now (line .entry))) && eqb (getD (now (line .entry)) 0 0) 35) ⌝ }
 {
-    words.is_empty() || words[0].as_str().starts_with('#')
+    let bytes = line.as_bytes();
+    bytes.len() > 0 && bytes[0] == b'#'
 }

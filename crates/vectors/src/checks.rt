@@ -224,7 +224,7 @@ fn checked(
 }
 
 // letters, rows of the payer table, under the bare edition (else house), refusal and record (zeros where accepted)
-const CASES: [(&[u8], usize, bool, (u8, usize)); 58] = [
+const CASES: [(&[u8], usize, bool, (u8, usize)); 60] = [
     (b"", 4, false, (12, 1)),
     (b"SOPDE", 4, false, (0, 0)),
     (b"!", 4, false, (1, 1)),
@@ -258,6 +258,7 @@ const CASES: [(&[u8], usize, bool, (u8, usize)); 58] = [
     (b"SOPQ", 1, false, (7, 4)),
     (b"SOPDOPDV", 1, false, (0, 0)),
     (b"SOPDOPQGV", 1, false, (7, 7)),
+    (b"SOePD", 4, false, (8, 5)),
     (b"SOQePM", 4, false, (8, 6)),
     (b"SOdPFU", 4, false, (0, 0)),
     (b"SOPDOQePM", 4, false, (8, 9)),
@@ -277,6 +278,7 @@ const CASES: [(&[u8], usize, bool, (u8, usize)); 58] = [
     (b"SR", 4, false, (13, 2)),
     (b"SOPTDE", 4, false, (13, 4)),
     (b"SROPDE", 4, true, (0, 0)),
+    (b"St", 4, false, (14, 2)),
     (b"SOr", 4, false, (14, 3)),
     (b"SOR", 4, false, (14, 3)),
     (b"SOPDEr", 4, false, (14, 6)),
@@ -315,20 +317,39 @@ fn long_file(heap: Global, first: &[u8], more: usize, last: &[u8]) -> Result<Vec
     Ok(bytes)
 }
 
-const LONG: [(&[u8], usize, &[u8], (u8, usize)); 6] = [
-    (b"S", 49_995, b"OPDE", (0, 0)),
-    (b"S", 49_995, b"OPDEu", (11, 50_001)),
-    (b"S", 49_995, b"OPDE!", (11, 50_001)),
-    (b"S", 49_999, b"", (12, 50_001)),
-    (b"S", 49_996, b"OPD", (12, 50_001)),
-    (b"S", 49_996, b"OPHE", (9, 50_000)),
+// records before, unknown records, records behind, rows of the payer table, refusal and record: each refusal where it can
+// come last
+const LONG: [(&[u8], usize, &[u8], usize, (u8, usize)); 17] = [
+    (b"S", 49995, b"OPDE", 4, (0, 0)),
+    (b"S", 49995, b"OPDEu", 4, (11, 50001)),
+    (b"S", 49995, b"OPDE!", 4, (11, 50001)),
+    (b"S", 49999, b"", 4, (12, 50001)),
+    (b"S", 49996, b"OPD", 4, (12, 50001)),
+    (b"S", 49998, b"!", 4, (1, 50000)),
+    (b"S", 49998, b"Z", 4, (2, 50000)),
+    (b"S", 49994, b"OPDES", 4, (3, 50000)),
+    (b"S", 49995, b"OPDh", 4, (4, 50000)),
+    (b"S", 49996, b"OPy", 4, (5, 50000)),
+    (
+        b"S",
+        49897,
+        b"OPiiiiiiiiiiiiiiiiiiiiiiiiiiiiiiiiiiiiiiiiiiiiiiiiiiiiiiiiiiiiiiiiiiiiiiiiiiiiiiiiiiiiiiiiiiiiiiiiiiii",
+        4,
+        (6, 50000),
+    ),
+    (b"S", 49997, b"OP", 0, (7, 50000)),
+    (b"S", 49995, b"OePD", 4, (8, 50000)),
+    (b"S", 49996, b"OPH", 4, (9, 50000)),
+    (b"S", 49995, b"OPDX", 4, (10, 50000)),
+    (b"S", 49996, b"OPT", 4, (13, 50000)),
+    (b"S", 49994, b"OPDEr", 4, (14, 50000)),
 ];
 
 #[test]
 fn long_files(rt: LibcRuntime) -> Result<(), Fail> {
-    for (first, more, last, answer) in LONG {
+    for (first, more, last, payers, answer) in LONG {
         let bytes = long_file(rt.alloc(), first, more, last)?;
-        check_eq(checked(rt.alloc(), &bytes, 4, false)?, answer)?;
+        check_eq(checked(rt.alloc(), &bytes, payers, false)?, answer)?;
     }
     Ok(())
 }
