@@ -1,4 +1,6 @@
 // Entries on a shelf in code: walking from trailer to trailer, reading and judging them, and laying a file's records.
+#![tactic(auto)]
+
 mod judging;
 mod lines;
 mod reading;

@@ -1,5 +1,7 @@
 // Parts of a record: text, digits, numbers, currencies, dates, time stamps and references.
 // A reader is handed its part as a slice and knows nothing of the record around it.
+#![tactic(auto)]
+
 mod bytes;
 mod dates;
 mod money;

@@ -1,4 +1,6 @@
 // A file of records in code: its lines, the judge, and checking.
+#![tactic(auto)]
+
 mod checking;
 mod judge;
 mod numbering;

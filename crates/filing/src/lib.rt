@@ -1,4 +1,6 @@
 // What stands on a shelf: entries with their trailers, what opening finds, and why a volume refuses.
+#![tactic(auto)]
+
 mod deposits;
 mod faults;
 mod standing;

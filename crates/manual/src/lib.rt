@@ -1,4 +1,6 @@
 // What a file has to be: definitions and laws for the code that checks it, and the faults that it can have.
+#![tactic(auto)]
+
 ghost use Rattle.manual.specs.Laws.{CheckLaws};
 
 mod faults;

@@ -1,4 +1,6 @@
 // One record of 80 bytes: the thirteen layouts, reserve positions, editions, and what class a record has.
+#![tactic(auto)]
+
 mod classes;
 mod editions;
 mod faults;

@@ -1,4 +1,6 @@
 // What every refusal tells: its number, the layer that refused, and the place; and how it is written for a person.
+#![tactic(auto)]
+
 ghost use Rattle.std.specs.Prelude.{◌≡◌};
 ghost use Rattle.refusal.specs.Causes.{cause_of};
 

@@ -1,4 +1,6 @@
 //! What holds records of 80 bytes: the calls of any shelf, a shelf over the caller's bytes, and two shelves as one.
+#![tactic(auto)]
+
 ghost use Rattle.std.specs.Prelude.{◌≡◌, ℕ, List, length};
 ghost use Rattle.shelf.specs.Laws.{Laws};
 ghost use Rattle.shelf.specs.Answers.{add_answer, added, copy_answer, copied};

@@ -1,5 +1,7 @@
 // A table of sums for any kind of key, over the caller's slice of rows.
 // The rows in use stand at the front, one for each key, in order of first appearance.
+#![tactic(auto)]
+
 mod key;
 
 ghost use Rattle.std.specs.Prelude.{◌≡◌, ◌+◌, ◌<◌, ◌≤◌, length, take, replicate, IfSome, if◌then◌else◌, Some, None, nat_le, nat_lt, slice_set};

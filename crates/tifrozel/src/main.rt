@@ -1,4 +1,6 @@
 // The program of the support desk: arguments, files and printing. Every decision is made in the library.
+#![tactic(auto)]
+
 ghost use Rattle.std.specs.Prelude.{IfOk};
 ghost use Rattle.file.specs.Single.{Listed};
 ghost use Rattle.tifrozel.specs.Editions.{meant};

@@ -1,4 +1,6 @@
 // Trailers and closing records: 80 digits that say what lies before them on a shelf.
+#![tactic(auto)]
+
 mod digits;
 mod layout;
 mod records;

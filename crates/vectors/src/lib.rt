@@ -1,4 +1,6 @@
 // Examples of the rules, run as tests.
+#![tactic(auto)]
+
 #[cfg(test)]
 mod checks;
 #[cfg(test)]

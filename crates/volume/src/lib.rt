@@ -1,4 +1,6 @@
 // The calls of a volume on a shelf: opening, taking in, closing, fetching.
+#![tactic(auto)]
+
 mod closing;
 mod fetching;
 mod opening;
