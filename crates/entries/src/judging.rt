@@ -19,8 +19,8 @@ fn agree(x: Totals, y: Totals) -> bool
 
 // Entry `k` before this trailer: whether it can be read, and is what the trailer says.
 fn judge_one<S: Shelf>(shelf: &S, k: usize, t: Trailer) -> Result<(), VolumeFault>
-    requires { t.previous + t.records ≤ length (records shelf.now) }
-    ensures { result ≡ compared k (part_of (records shelf.now) t) (reads (part_of (records shelf.now) t).entry) }
+    requires { t.previous + t.records ≤ length (S.records shelf.now) }
+    ensures { result ≡ compared k (part_of (S.records shelf.now) t) (reads (part_of (S.records shelf.now) t).entry) }
 {
     match read_entry(shelf, t.previous as usize, t.records as usize) {
         Ok(totals) => {
@@ -50,9 +50,9 @@ fn first_of(
 // Each entry in the first `top` records against its trailer, in one walk back: the fault met last is that of the first
 // faulty entry.
 pub fn judge_back<S: Shelf>(shelf: &S, top: usize, entries: usize) -> Result<(), VolumeFault>
-    requires top { top ≤ length (records shelf.now) }
-    requires walked { counted (walk (records shelf.now) top top) ≡ Ok entries }
-    ensures { result ≡ judge reads (parts_below (records shelf.now) top) }
+    requires top { top ≤ length (S.records shelf.now) }
+    requires walked { counted (walk (S.records shelf.now) top top) ≡ Ok entries }
+    ensures { result ≡ judge reads (parts_below (S.records shelf.now) top) }
 {
     let mut at = top;
     let mut left = entries;

@@ -45,10 +45,10 @@ pub fn measure_lines(file: &[u8]) -> Measure
 
 // Adds the whole records at the front of the file, in order. There is a place for each, so that the shelf refuses none.
 pub fn lay_lines<S: Shelf>(shelf: &mut S, file: &[u8])
-    requires { length (records shelf.old) + length (front (slots file.now)) ≤ room shelf.old }
-    ensures list { records shelf.new ≡ records shelf.old ++ front (slots file.now) }
-    ensures limit { room shelf.new ≡ room shelf.old }
-    ensures same { same shelf.old shelf.new }
+    requires { length (S.records shelf.old) + length (front (slots file.now)) ≤ S.room shelf.old }
+    ensures list { S.records shelf.new ≡ S.records shelf.old ++ front (slots file.now) }
+    ensures limit { S.room shelf.new ≡ S.room shelf.old }
+    ensures same { S.same shelf.old shelf.new }
 {
     let mut rest = file;
     while let Some(end) = cut(rest) {

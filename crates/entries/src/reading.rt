@@ -19,8 +19,8 @@ use trailer::Totals;
 
 // The record with this shelf number.
 pub fn record_at<S: Shelf>(shelf: &S, at: usize) -> [u8; 80]
-    requires { (0 < at) × (at ≤ length (records shelf.now)) }
-    ensures { result ≡ slice_index_or (records shelf.now) (at - 1) [] }
+    requires { (0 < at) × (at ≤ length (S.records shelf.now)) }
+    ensures { result ≡ slice_index_or (S.records shelf.now) (at - 1) [] }
 {
     let mut item = [0u8; 80];
     let _ = shelf.copy(at, &mut item);
@@ -53,8 +53,8 @@ fn add_deposit(deposits: &mut Deposits, item: &[u8; 80])
 
 // What the entry of so many records behind the first `before` comes to, or why it cannot be read.
 pub fn read_entry<S: Shelf>(shelf: &S, before: usize, count: usize) -> Result<Totals, FileFault>
-    requires { before + count ≤ length (records shelf.now) }
-    ensures { result ≡ reads (between before (before + count) (records shelf.now)) }
+    requires { before + count ≤ length (S.records shelf.now) }
+    ensures { result ≡ reads (between before (before + count) (S.records shelf.now)) }
 {
     let mut judge = Judge::new();
     let mut deposits = Deposits { sek: 0, eur: 0 };

@@ -32,8 +32,8 @@ fn same_stamp(x: Option<Start>, y: Option<Start>) -> bool
 
 // Whether the entry before this trailer has the time stamp. An entry of no records has none.
 fn has_same<S: Shelf>(shelf: &S, t: Trailer, start: Option<Start>) -> bool
-    requires { t.previous + t.records ≤ length (records shelf.now) }
-    ensures { result ≡ same_stamp start (start_of (part_of (records shelf.now) t).entry) }
+    requires { t.previous + t.records ≤ length (S.records shelf.now) }
+    ensures { result ≡ same_stamp start (start_of (part_of (S.records shelf.now) t).entry) }
 {
     if t.records == 0 {
         return false;
@@ -49,9 +49,9 @@ pub fn first_with<S: Shelf>(
     entries: usize,
     start: Option<Start>,
 ) -> Option<usize>
-    requires top { top ≤ length (records shelf.now) }
-    requires walked { counted (walk (records shelf.now) top top) ≡ Ok entries }
-    ensures { result ≡ first_same start 1 (reverse (map entry_of (parts_below (records shelf.now) top))) }
+    requires top { top ≤ length (S.records shelf.now) }
+    requires walked { counted (walk (S.records shelf.now) top top) ≡ Ok entries }
+    ensures { result ≡ first_same start 1 (reverse (map entry_of (parts_below (S.records shelf.now) top))) }
 {
     let mut at = top;
     let mut left = entries;

@@ -35,7 +35,7 @@ fn turn<E: Edition>(
     requires { used.old ≤ length rows.old }
     ensures within { used.new ≤ length rows.new }
     ensures line { IfOk result (λ w. (Some w ≡ option_map width_term (cut_term bytes.now)) × (80 < w) × (w ≤ length bytes.now)) }
-    ensures state { outcome result (held_by judge.new (take used.new rows.new)) ≡ line_step (mode_of rules (length rows.old)) (meaning edition.now) (held_by judge.old (take used.old rows.old)) bytes.now (cut_term bytes.now) }
+    ensures state { outcome result (held_by judge.new (take used.new rows.new)) ≡ line_step (mode_of rules (length rows.old)) (E.meaning edition.now) (held_by judge.old (take used.old rows.old)) bytes.now (cut_term bytes.now) }
 {
     let Some(end) = cut(bytes) else {
         return Err(Cause::Broken);
@@ -52,8 +52,8 @@ pub fn check<E: Edition>(
     edition: &E,
     payers: &mut [Row<u64>],
 ) -> Result<End, FileFault>
-    ensures answer { result ≡ check_of (with_payers (length payers.old)) (meaning edition.now) file.now }
-    ensures manual { Right (length payers.old) (meaning edition.now) file.now result }
+    ensures answer { result ≡ check_of (with_payers (length payers.old)) (E.meaning edition.now) file.now }
+    ensures manual { Right (length payers.old) (E.meaning edition.now) file.now result }
     ensures laws { CheckLaws }
 {
     check_laws();

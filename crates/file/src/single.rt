@@ -15,7 +15,7 @@ pub struct One {
 }
 
 fn first_record<E: Edition>(bytes: &[u8], edition: &E) -> Result<One, Cause>
-    ensures value { result ≡ one_of (meaning edition.now) bytes.now }
+    ensures value { result ≡ one_of (E.meaning edition.now) bytes.now }
     ensures within { IfOk result (λ one. (80 < one.width) × (one.width ≤ length bytes.now)) }
 {
     let Some(end) = cut(bytes) else {
@@ -30,7 +30,7 @@ fn first_record<E: Edition>(bytes: &[u8], edition: &E) -> Result<One, Cause>
 
 // The first record of these bytes, read by itself, where it has this number in its file.
 pub fn read_one<E: Edition>(bytes: &[u8], number: usize, edition: &E) -> Result<One, FileFault>
-    ensures value { result ≡ numbered number (one_of (meaning edition.now) bytes.now) }
+    ensures value { result ≡ numbered number (one_of (E.meaning edition.now) bytes.now) }
     ensures within { IfOk result (λ one. (80 < one.width) × (one.width ≤ length bytes.now)) }
 {
     at_record(number, first_record(bytes, edition))

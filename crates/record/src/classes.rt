@@ -42,7 +42,7 @@ fn code(a: u8, b: u8) -> Option<u8>
 // The class of a record whose code is not a core code.
 fn beyond<E: Edition>(code: u8, line: &[u8], edition: &E) -> Class
     requires { length line.now ≡ 80 }
-    ensures { result ≡ outside (meaning edition.now) code line.now }
+    ensures { result ≡ outside (E.meaning edition.now) code line.now }
 {
     match edition.level(code) {
         Level::Unknown => Class::Unknown,
@@ -63,7 +63,7 @@ fn class_laws()
 // change a class, and the other laws of `ClassLaws` hold.
 pub fn classify<E: Edition>(line: &[u8], edition: &E) -> Class
     requires { length line.now ≡ 80 }
-    ensures class { result ≡ class_of (meaning edition.now) line.now }
+    ensures class { result ≡ class_of (E.meaning edition.now) line.now }
     ensures laws { ClassLaws }
 {
     class_laws();

@@ -6,10 +6,10 @@ use crate::{Shelf, ShelfFault};
 
 /// Adds all the records, in order, or none where not all find places.
 pub fn lay<S: Shelf>(shelf: &mut S, items: &[[u8; 80]]) -> Result<(), ShelfFault>
-    ensures answer { result ≡ lay_answer (length (records shelf.old)) (room shelf.old) (length items.now) }
-    ensures list { records shelf.new ≡ laid (records shelf.old) (room shelf.old) items.now }
-    ensures limit { room shelf.new ≡ room shelf.old }
-    ensures same { same shelf.old shelf.new }
+    ensures answer { result ≡ lay_answer (length (S.records shelf.old)) (S.room shelf.old) (length items.now) }
+    ensures list { S.records shelf.new ≡ laid (S.records shelf.old) (S.room shelf.old) items.now }
+    ensures limit { S.room shelf.new ≡ S.room shelf.old }
+    ensures same { S.same shelf.old shelf.new }
 {
     let count = shelf.count();
     if shelf.limit() - count < items.len() {
@@ -30,7 +30,7 @@ fn covers(n: usize, k: usize, count: usize) -> bool
 
 // The first number from n on that no record has.
 fn missing<S: Shelf>(shelf: &S, n: usize) -> usize
-    ensures { result ≡ first_missing n (length (records shelf.now)) }
+    ensures { result ≡ first_missing n (length (S.records shelf.now)) }
 {
     if n == 0 {
         return 0;
@@ -41,8 +41,8 @@ fn missing<S: Shelf>(shelf: &S, n: usize) -> usize
 /// Copies the records from number n on to the whole eighties of `out`, as many as it has; refused with the first number
 /// that is missing.
 pub fn read_range<S: Shelf>(shelf: &S, n: usize, out: &mut [u8]) -> Result<(), ShelfFault>
-    ensures answer { result ≡ read_answer n (length out.old / 80) (length (records shelf.now)) }
-    ensures buffer { out.new ≡ read_bytes (records shelf.now) n out.old }
+    ensures answer { result ≡ read_answer n (length out.old / 80) (length (S.records shelf.now)) }
+    ensures buffer { out.new ≡ read_bytes (S.records shelf.now) n out.old }
 {
     let k = out.len() / 80;
     if !covers(n, k, shelf.count()) {

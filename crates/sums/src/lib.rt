@@ -42,7 +42,7 @@ impl<K: Key> Row<K> {
 pub fn find<K: Key>(rows: &[Row<K>], used: usize, key: &K) -> Option<usize>
     requires { used ≤ length rows.now }
     ensures within { IfSome result (λ i. i < used) }
-    ensures first { result ≡ place same (take used rows.now) key.now }
+    ensures first { result ≡ place K.same (take used rows.now) key.now }
 {
     for i in 0..used {
         if rows[i].key.same_key(key) {
@@ -62,7 +62,7 @@ pub fn enter<K: Key>(
     taken: u64,
 ) -> Option<usize>
     requires { used ≤ length rows.old }
-    ensures { Entered same used key added taken rows.old rows.new result }
+    ensures { Entered K.same used key added taken rows.old rows.new result }
 {
     match find(rows, used, &key) {
         Some(i) => add_to(rows, used, i, key, added, taken),
@@ -81,8 +81,8 @@ fn add_to<K: Key>(
 ) -> Option<usize>
     requires within { used ≤ length rows.old }
     requires below { i < used }
-    requires there { Some i ≡ place same (take used rows.old) key }
-    ensures { Entered same used key added taken rows.old rows.new result }
+    requires there { Some i ≡ place K.same (take used rows.old) key }
+    ensures { Entered K.same used key added taken rows.old rows.new result }
 {
     rows[i] = rows[i].plus(added, taken);
     Some(used)
@@ -97,8 +97,8 @@ fn add_new<K: Key>(
     taken: u64,
 ) -> Option<usize>
     requires within { used ≤ length rows.old }
-    requires nowhere { None ≡ place same (take used rows.old) key }
-    ensures { Entered same used key added taken rows.old rows.new result }
+    requires nowhere { None ≡ place K.same (take used rows.old) key }
+    ensures { Entered K.same used key added taken rows.old rows.new result }
 {
     append(rows, used, Row { key, added, taken })
 }
@@ -117,7 +117,7 @@ fn append<K: Key>(rows: &mut [Row<K>], used: usize, row: Row<K>) -> Option<usize
 
 // Makes a zero row of each row of the slice.
 pub fn empty<K: Key>(rows: &mut [Row<K>])
-    ensures { rows.new ≡ replicate (length rows.old) (zero_row zero) }
+    ensures { rows.new ≡ replicate (length rows.old) (zero_row K.zero) }
 {
     for i in 0..rows.len() {
         rows[i] = Row {

@@ -33,7 +33,7 @@ fn line(heap: Global, number: usize, class: Class, a: u8, b: u8) -> Result<Strin
 
 // Reads to the end of the bytes, or to the first record that cannot be read by itself.
 pub fn list<E: Edition>(heap: Global, bytes: &[u8], edition: &E) -> Result<Listing, AllocError>
-    ensures { IfOk result (λ l. Listed (meaning edition.now) 0 bytes.now l.records l.fault) }
+    ensures { IfOk result (λ l. Listed (E.meaning edition.now) 0 bytes.now l.records l.fault) }
 {
     let mut lines = String::new(heap);
     let mut records: usize = 0;

@@ -10,13 +10,13 @@ use trailer::write_closing;
 
 // Lays the closing record. It is never refused, since an open volume leaves a place free.
 pub fn close<S: Shelf>(shelf: &mut S, volume: OpenVolume) -> ClosedVolume
-    requires { OwnOpen volume (records shelf.old) (room shelf.old) }
+    requires { OwnOpen volume (S.records shelf.old) (S.room shelf.old) }
     ensures entries { result.entries ≡ volume.entries }
     ensures last { result.last ≡ volume.last }
-    ensures list { records shelf.new ≡ closed volume.entries (records shelf.old) }
-    ensures limit { room shelf.new ≡ room shelf.old }
-    ensures same { same shelf.old shelf.new }
-    ensures own { OwnClosed result (records shelf.new) (room shelf.new) }
+    ensures list { S.records shelf.new ≡ closed volume.entries (S.records shelf.old) }
+    ensures limit { S.room shelf.new ≡ S.room shelf.old }
+    ensures same { S.same shelf.old shelf.new }
+    ensures own { OwnClosed result (S.records shelf.new) (S.room shelf.new) }
 {
     let mut item = [0u8; 80];
     write_closing(volume.entries as u64, volume.last as u64, &mut item);
@@ -29,7 +29,7 @@ pub fn close<S: Shelf>(shelf: &mut S, volume: OpenVolume) -> ClosedVolume
 
 // Takes up the old volume: as its token is the shelf's own, opening answers it again.
 pub fn open_again<S: Shelf>(shelf: &S, old: Volume) -> Volume
-    requires { Own old (records shelf.now) (room shelf.now) }
+    requires { Own old (S.records shelf.now) (S.room shelf.now) }
     ensures { result ≡ old }
 {
     match open(shelf) {

@@ -38,11 +38,11 @@ fn is_among(k: usize, many: usize) -> bool
 
 // The trailer behind entry k.
 fn trailer_of<S: Shelf>(shelf: &S, opened: Opened, k: usize) -> Trailer
-    requires own { found_on (records shelf.now) (room shelf.now) ≡ Ok opened }
+    requires own { found_on (S.records shelf.now) (S.room shelf.now) ≡ Ok opened }
     requires low { 0 < k }
     requires high { k ≤ opened.entries }
-    ensures entry { between result.previous (result.previous + result.records) (records shelf.now) ≡ slice_index_or (entries_of (records shelf.now)) (k - 1) [] }
-    ensures inside { result.previous + result.records ≤ length (records shelf.now) }
+    ensures entry { between result.previous (result.previous + result.records) (S.records shelf.now) ≡ slice_index_or (entries_of (S.records shelf.now)) (k - 1) [] }
+    ensures inside { result.previous + result.records ≤ length (S.records shelf.now) }
 {
     find_entry(shelf, opened.last, opened.entries, opened.entries - k)
 }
@@ -55,9 +55,9 @@ pub fn fetch<S: Shelf>(
     number: usize,
     out: &mut [u8; 80],
 ) -> Result<(), VolumeFault>
-    requires { Own volume.now (records shelf.now) (room shelf.now) }
-    ensures answer { result ≡ fetch_answer (fetched entry number (entries_of (records shelf.now))) }
-    ensures buffer { out.new ≡ fetch_bytes (fetched entry number (entries_of (records shelf.now))) out.old }
+    requires { Own volume.now (S.records shelf.now) (S.room shelf.now) }
+    ensures answer { result ≡ fetch_answer (fetched entry number (entries_of (S.records shelf.now))) }
+    ensures buffer { out.new ≡ fetch_bytes (fetched entry number (entries_of (S.records shelf.now))) out.old }
 {
     let opened = told(volume);
     if !is_among(entry, opened.entries) {

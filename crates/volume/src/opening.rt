@@ -13,7 +13,7 @@ use trailer::{closing_says, is_right_closing};
 
 // Whether the last record is taken for a closing record.
 fn ends_98<S: Shelf>(shelf: &S) -> bool
-    ensures { result ≡ begins_98 (last_of (records shelf.now)) }
+    ensures { result ≡ begins_98 (last_of (S.records shelf.now)) }
 {
     let count = shelf.count();
     if count == 0 {
@@ -24,7 +24,7 @@ fn ends_98<S: Shelf>(shelf: &S) -> bool
 }
 
 fn open_open<S: Shelf>(shelf: &S) -> Result<Volume, VolumeFault>
-    ensures { result ≡ with_token (opening_open reads (room shelf.now) (records shelf.now)) }
+    ensures { result ≡ with_token (opening_open reads (S.room shelf.now) (S.records shelf.now)) }
 {
     let count = shelf.count();
     let entries = walk_back(shelf, count)?;
@@ -40,8 +40,8 @@ fn open_open<S: Shelf>(shelf: &S) -> Result<Volume, VolumeFault>
 }
 
 fn open_closed<S: Shelf>(shelf: &S) -> Result<Volume, VolumeFault>
-    requires { 0 < length (records shelf.now) }
-    ensures { result ≡ with_token (opening_closed reads (records shelf.now)) }
+    requires { 0 < length (S.records shelf.now) }
+    ensures { result ≡ with_token (opening_closed reads (S.records shelf.now)) }
 {
     let count = shelf.count();
     let item = record_at(shelf, count);
@@ -61,9 +61,9 @@ fn open_closed<S: Shelf>(shelf: &S) -> Result<Volume, VolumeFault>
 // What opening a shelf finds: the number of entries, and whether the volume is open or closed, in a token. It opens exactly
 // where its records are what filing some readable entries lays down, and these entries are unique.
 pub fn open<S: Shelf>(shelf: &S) -> Result<Volume, VolumeFault>
-    ensures answer { result ≡ with_token (found_on (records shelf.now) (room shelf.now)) }
-    ensures exactly { OpensExactly (records shelf.now) (room shelf.now) result }
-    ensures own { IfOk result (λ v. Own v (records shelf.now) (room shelf.now)) }
+    ensures answer { result ≡ with_token (found_on (S.records shelf.now) (S.room shelf.now)) }
+    ensures exactly { OpensExactly (S.records shelf.now) (S.room shelf.now) result }
+    ensures own { IfOk result (λ v. Own v (S.records shelf.now) (S.room shelf.now)) }
 {
     if ends_98(shelf) {
         open_closed(shelf)

@@ -46,10 +46,10 @@ fn admit<S: Shelf>(
     file: &[u8],
     many: usize,
 ) -> Result<(), VolumeFault>
-    requires own { OwnOpen volume.now (records shelf.now) (room shelf.now) }
+    requires own { OwnOpen volume.now (S.records shelf.now) (S.room shelf.now) }
     requires counted { many ≡ length (front (slots file.now)) }
     requires few { many ≤ 50000 }
-    ensures { result ≡ admitted (room shelf.now) (length (records shelf.now)) (entries_of (records shelf.now)) (front (slots file.now)) }
+    ensures { result ≡ admitted (S.room shelf.now) (length (S.records shelf.now)) (entries_of (S.records shelf.now)) (front (slots file.now)) }
 {
     let start = file_start(file);
     if is_marked(start) {
@@ -67,10 +67,10 @@ fn admit<S: Shelf>(
 
 // Lays a trailer behind the last record.
 fn lay_trailer<S: Shelf>(shelf: &mut S, t: &Trailer)
-    requires { length (records shelf.old) < room shelf.old }
-    ensures list { records shelf.new ≡ records shelf.old ++ trailer_of t.now ∷ [] }
-    ensures limit { room shelf.new ≡ room shelf.old }
-    ensures same { same shelf.old shelf.new }
+    requires { length (S.records shelf.old) < S.room shelf.old }
+    ensures list { S.records shelf.new ≡ S.records shelf.old ++ trailer_of t.now ∷ [] }
+    ensures limit { S.room shelf.new ≡ S.room shelf.old }
+    ensures same { S.same shelf.old shelf.new }
 {
     let mut item = [0u8; 80];
     write_trailer(t, &mut item);
@@ -86,14 +86,14 @@ pub fn take_in<S: Shelf, E: Edition>(
     edition: &E,
     payers: &mut [Row<u64>],
 ) -> Result<usize, VolumeFault>
-    requires { OwnOpen volume.old (S.Shelf.records shelf.old) (S.Shelf.room shelf.old) }
-    ensures answer { result ≡ take_answer (check_of (judging (length payers.old)) (E.Edition.meaning edition.now) file.now) (S.Shelf.room shelf.old) (S.Shelf.records shelf.old) volume.old (front (slots file.now)) }
-    ensures list { S.Shelf.records shelf.new ≡ take_records result (S.Shelf.records shelf.old) volume.old (front (slots file.now)) }
-    ensures token { volume.new ≡ take_token result (S.Shelf.records shelf.old) volume.old (front (slots file.now)) }
-    ensures limit { S.Shelf.room shelf.new ≡ S.Shelf.room shelf.old }
-    ensures same { S.Shelf.same shelf.old shelf.new }
-    ensures entries { OnOk result (entries_of (S.Shelf.records shelf.new) ≡ entries_of (S.Shelf.records shelf.old) ++ front (slots file.now) ∷ []) }
-    ensures own { OwnOpen volume.new (S.Shelf.records shelf.new) (S.Shelf.room shelf.new) }
+    requires { OwnOpen volume.old (S.records shelf.old) (S.room shelf.old) }
+    ensures answer { result ≡ take_answer (check_of (judging (length payers.old)) (E.meaning edition.now) file.now) (S.room shelf.old) (S.records shelf.old) volume.old (front (slots file.now)) }
+    ensures list { S.records shelf.new ≡ take_records result (S.records shelf.old) volume.old (front (slots file.now)) }
+    ensures token { volume.new ≡ take_token result (S.records shelf.old) volume.old (front (slots file.now)) }
+    ensures limit { S.room shelf.new ≡ S.room shelf.old }
+    ensures same { S.same shelf.old shelf.new }
+    ensures entries { OnOk result (entries_of (S.records shelf.new) ≡ entries_of (S.records shelf.old) ++ front (slots file.now) ∷ []) }
+    ensures own { OwnOpen volume.new (S.records shelf.new) (S.room shelf.new) }
 {
     let counts = check(file, edition, payers)?;
     let size = measure_lines(file);

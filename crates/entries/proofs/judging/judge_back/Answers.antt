@@ -5,8 +5,8 @@ use Rattle.entries.proofs.judging.judge_back.Goals as goal
 pub loop-left-init : goal.loop-left-init
 loop-left-init g c = search (rules, judging-start)
 
-pub trailer-at-requires : goal.trailer-at-requires
-trailer-at-requires g c = search (rules, judging_at)
+pub trailer_at-requires : goal.trailer_at-requires
+trailer_at-requires g c = search (rules, judging_at)
 
 pub unreachable-requires : goal.unreachable-requires
 unreachable-requires g c = let e = sym c.in-None.ensures.is in search (rules, judging-not-none)

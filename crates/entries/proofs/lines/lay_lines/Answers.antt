@@ -10,9 +10,9 @@ loop-end-preserved g c =
     let s = g.S.Shelf in
     let rs = s.records c.args.shelf.now in
     let es = front (slots c.args.file.now) in
-    let next = front_line _ _ _ _ c.in-Some.ensures.value c.width.ensures c.split-at.ensures.back in
+    let next = front_line _ _ _ _ c.in-Some.ensures.value c.width.ensures c.split_at.ensures.back in
     let few : length (rs ++ es) ≤ s.room c.loop-end.shelf = omega (arith, length-append rs es) in
-    let item = c.add.ensures.list ∙ ap (added (s.records c.loop-end.shelf) (s.room c.loop-end.shelf)) c.item-of.ensures in (
+    let item = c.add.ensures.list ∙ ap (added (s.records c.loop-end.shelf) (s.room c.loop-end.shelf)) c.item_of.ensures in (
       laid_line (rs ++ es) (s.records c.loop-end.shelf) _ _ _ _ _ c.loop-end.invariant.0 few next item,
       c.add.ensures.limit ∙ c.loop-end.invariant.1,
       s.laws.same_trans _ _ _ c.loop-end.invariant.2 c.add.ensures.same,
@@ -21,6 +21,6 @@ loop-end-preserved g c =
 pub returns : goal.returns
 returns g c =
     let now = g.S.Shelf.records c.loop-end.shelf in
-    let none = front-none c.loop-end.rest.now c.in-default.ensures.value in
+    let none = front-none c.loop-end.rest.now c.in_default.ensures.value in
     let list = sym (append-nil now) ∙ ap (λ l. now ++ l) (sym none) ∙ c.loop-end.invariant.0 in
     search rules

@@ -11,4 +11,4 @@ returns g c =
     let rs = g.S.Shelf.records c.args.shelf.now in
     let first = start_at rs c.args.t.previous c.args.t.records c.if-t-eq0.false c.requires in
     c.same_stamp.ensures
-    ∙ ap (same_stamp c.args.start) (c.start-of.ensures ∙ ap start_in c.record-at.ensures ∙ sym first)
+    ∙ ap (same_stamp c.args.start) (c.start_of.ensures ∙ ap start_in c.record_at.ensures ∙ sym first)

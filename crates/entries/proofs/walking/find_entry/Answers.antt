@@ -5,8 +5,8 @@ use Rattle.entries.proofs.walking.find_entry.Goals as goal
 pub loop-t-init : goal.loop-t-init
 loop-t-init g c = search (rules, back_start)
 
-pub trailer-at-requires : goal.trailer-at-requires
-trailer-at-requires g c = search (rules, back_some)
+pub trailer_at-requires : goal.trailer_at-requires
+trailer_at-requires g c = search (rules, back_some)
 
 pub returns-then-left-eq0 : goal.returns-then-left-eq0
 returns-then-left-eq0 g c = let e = sym c.in-Some.ensures.is in search (rules, back_done, back_inside)

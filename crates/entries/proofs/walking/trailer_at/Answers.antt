@@ -7,5 +7,5 @@ pub returns : goal.returns
 returns g c =
     let at = c.args.at in
     let r = get_or (g.S.Shelf.records c.args.shelf.now) (at - 1) [] in
-    let is : c.read_trailer.result ≡ read_trailer r at = c.read_trailer.ensures.answer ∙ ap (λ x. read_trailer x at) c.record-at.ensures in
+    let is : c.read_trailer.result ≡ read_trailer r at = c.read_trailer.ensures.answer ∙ ap (λ x. read_trailer x at) c.record_at.ensures in
     record { is = is; placed = placed_cases c.read_trailer.result r at is }

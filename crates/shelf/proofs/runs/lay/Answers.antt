@@ -3,8 +3,8 @@ use Rattle.std.proofs.lemmas.List.{take_all, length-take-le}
 use Rattle.shelf.proofs.Calls.{add_ok, laid_more, ok_not_err}
 use Rattle.shelf.proofs.runs.lay.Goals as goal
 
-pub returns-in-err-add : goal.returns-in-err-add
-returns-in-err-add g c =
+pub returns-in_err-add : goal.returns-in_err-add
+returns-in_err-add g c =
     let rs = g.S.Shelf.records c.args.shelf.now in
     let items = c.args.items.now in
     let i = c.loop-item.item-index in
@@ -12,7 +12,7 @@ returns-in-err-add g c =
     let many = length-take-le i items (omega arith) in
     let inside = g.S.Shelf.laws.inside c.args.shelf.now in
     let free : length (g.S.Shelf.records c.loop-item.shelf) < g.S.Shelf.room c.loop-item.shelf = omega arith in
-    absurd (ok_not_err (c.add.ensures.answer ∙ add_ok _ _ free) c.in-err-add.was)
+    absurd (ok_not_err (c.add.ensures.answer ∙ add_ok _ _ free) c.in_err-add.was)
 
 pub loop-item-preserved : goal.loop-item-preserved
 loop-item-preserved g c =

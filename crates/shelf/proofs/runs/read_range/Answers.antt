@@ -19,9 +19,9 @@ loop-i-preserved g c =
     let here : i < length rest = omega arith in
     let step : 80 * i + 80 - 80 * i ≡ 80 = omega arith in
     let at : n - 1 + i ≡ n + i - 1 = omega arith in
-    let item = c.copy-from-slice.new.self in
+    let item = c.copy_from_slice.new.self in
     let d = c.loop-i.item in
     let is : item ≡ get_or rest i d =
-    c.copy-from-slice.ensures.after ∙ c.copy.ensures.buffer ∙ copied_is rs (n + i) d (omega arith) (omega arith) ∙ ap (λ m. get_or rs m d) (sym at) ∙ sym (get_or-drop (n - 1) rs i d)
+    c.copy_from_slice.ensures.after ∙ c.copy.ensures.buffer ∙ copied_is rs (n + i) d (omega arith) (omega arith) ∙ ap (λ m. get_or rs m d) (sym at) ∙ sym (get_or-drop (n - 1) rs i d)
     in
     (c.copy.array_long, ap (λ l. put_mid (80 * i) (80 * i + 80 - 80 * i) l item) c.loop-i.invariant.1 ∙ flat-more rest i _ out item d (whole_drop (n - 1) rs (g.S.Shelf.laws.whole c.args.shelf.now)) here step is)

@@ -5,7 +5,7 @@ use Rattle.tifrozel.proofs.listing.list.Goals as goal
 pub loop-rest-preserved : goal.loop-rest-preserved
 loop-rest-preserved g c =
     let read = c.in-Ok.ensures in
-    let after = c.split-at.ensures in (
+    let after = c.split_at.ensures in (
       omega (arith, after.back_len, read.within),
       turn _ _ _ _ c.loop-rest.invariant.1 _ c.in-Ok.one c.loop-rest-test.ensures read.value after.back,
     )

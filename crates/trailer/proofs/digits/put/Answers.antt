@@ -12,10 +12,10 @@ returns c =
     let to = c.args.to in
     let out = c.args.out.now in
     let ds = digits_of c.args.n (to - from) in
-    let is : c.write-digits.new.part ≡ ds = c.write-digits.ensures ∙ ap (digits_of c.args.n) (length-between out from to (omega arith)) in
-    let many : length c.write-digits.new.part ≡ to - from = ap length is ∙ length_digits c.args.n (to - from) in
+    let is : c.write_digits.new.part ≡ ds = c.write_digits.ensures ∙ ap (digits_of c.args.n) (length-between out from to (omega arith)) in
+    let many : length c.write_digits.new.part ≡ to - from = ap length is ∙ length_digits c.args.n (to - from) in
     let past : drop (to - from) (drop from out) ≡ drop to out = drop-drop (to - from) from out ∙ ap (λ k. drop k out) (omega arith) in
     record {
       whole = ap (λ l. take from out ++ (l ++ drop (to - from) (drop from out))) is ∙ ap (λ l. take from out ++ (ds ++ l)) past ∙ sym (append_assoc (take from out) ds (drop to out));
-      front = take-put_mid from (to - from) out c.write-digits.new.part to (omega arith) (omega arith) ∙ ap (λ l. take from out ++ l) is;
+      front = take-put_mid from (to - from) out c.write_digits.new.part to (omega arith) (omega arith) ∙ ap (λ l. take from out ++ l) is;
     }

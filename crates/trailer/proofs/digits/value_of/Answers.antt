@@ -3,11 +3,11 @@ use Rattle.field.proofs.Steps.{ten_step, ten_room}
 use Rattle.trailer.proofs.Steps.{value-step, value-end}
 use Rattle.trailer.proofs.digits.value_of.Goals as goal
 
-pub overflow-mul-n : goal.overflow-mul-n
-overflow-mul-n c = grind (arith, ten_room)
+pub overflow_mul-n : goal.overflow_mul-n
+overflow_mul-n c = grind (arith, ten_room)
 
-pub overflow-add-n : goal.overflow-add-n
-overflow-add-n c = grind (arith, ten_room)
+pub overflow_add-n : goal.overflow_add-n
+overflow_add-n c = grind (arith, ten_room)
 
 pub loop-b-preserved : goal.loop-b-preserved
 loop-b-preserved c = (grind (arith, value-step), grind (arith, ten_step))

@@ -2,14 +2,14 @@ use Rattle.std.proofs.Common.{rules}
 use Rattle.trailer.specs.Trailers.{read_trailer}
 use Rattle.trailer.proofs.records.read_trailer.Goals as goal
 
-pub returns-then-not-is-trailer : goal.returns-then-not-is-trailer
+pub returns-then-not-is_trailer : goal.returns-then-not-is_trailer
 unfolding read_trailer
-returns-then-not-is-trailer c = search rules
+returns-then-not-is_trailer c = search rules
 
-pub returns-then-is-placed : goal.returns-then-is-placed
+pub returns-then-is_placed : goal.returns-then-is_placed
 unfolding read_trailer
-returns-then-is-placed c = search rules
+returns-then-is_placed c = search rules
 
-pub returns-else-is-placed : goal.returns-else-is-placed
+pub returns-else-is_placed : goal.returns-else-is_placed
 unfolding read_trailer
-returns-else-is-placed c = search rules
+returns-else-is_placed c = search rules

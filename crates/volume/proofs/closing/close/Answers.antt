@@ -17,8 +17,8 @@ returns g c =
     let t = c.args.volume in
     let room : length rs < limit = laws.open_room reads limit rs (open_says t) c.requires refl in
     let small : length rs < 10 ^ 8 = omega (arith, g.S.Shelf.laws.inside shelf, g.S.Shelf.laws.bound shelf) in
-    let wrote : c.write-closing.new.out ≡ closing_of t.entries (length rs) = c.write-closing.ensures ∙ ap (closing_of t.entries) (last-is-count rs limit (g.S.Shelf.laws.whole shelf) t c.requires) in
-    let lies : g.S.Shelf.records c.add.new.self ≡ closed t.entries rs = c.add.ensures.list ∙ added_is rs limit c.write-closing.new.out room ∙ ap (λ x. rs ++ x ∷ []) wrote in
+    let wrote : c.write_closing.new.out ≡ closing_of t.entries (length rs) = c.write_closing.ensures ∙ ap (closing_of t.entries) (last-is-count rs limit (g.S.Shelf.laws.whole shelf) t c.requires) in
+    let lies : g.S.Shelf.records c.add.new.self ≡ closed t.entries rs = c.add.ensures.list ∙ added_is rs limit c.write_closing.new.out room ∙ ap (λ x. rs ++ x ∷ []) wrote in
     let done = laws.closes reads limit rs (open_says t) (g.S.Shelf.laws.whole shelf) c.requires refl small in
     record {
       entries = refl;

@@ -5,26 +5,26 @@ use Rattle.volume.specs.Taking.{numbered_in, fetch_answer, fetch_bytes}
 use Rattle.volume.proofs.Fetched.{many, no_entry, no_record, record_found}
 use Rattle.volume.proofs.fetching.fetch.Goals as goal
 
-pub returns-then-not-is-among : goal.returns-then-not-is-among
-returns-then-not-is-among g c =
+pub returns-then-not-is_among : goal.returns-then-not-is_among
+returns-then-not-is_among g c =
     let shelf = c.args.shelf.now in
     let rs = g.S.Shelf.records shelf in
     let k = c.args.entry in
     let own = c.requires ∙ ap Ok (sym c.told-opened.ensures) in
     let all = many rs (g.S.Shelf.room shelf) (g.S.Shelf.laws.whole shelf) c.told-opened.result own in
-    let is = no_entry k c.args.number (entries_of rs) (ap (numbered_in k) all ∙ sym c.if-not-is-among.ensures) in
+    let is = no_entry k c.args.number (entries_of rs) (ap (numbered_in k) all ∙ sym c.if-not-is_among.ensures) in
     record { answer = ap fetch_answer is; buffer = ap (λ r. fetch_bytes r c.args.out.now) is }
 
-pub returns-then-not-is-among-2 : goal.returns-then-not-is-among-2
-returns-then-not-is-among-2 g c =
+pub returns-then-not-is_among-2 : goal.returns-then-not-is_among-2
+returns-then-not-is_among-2 g c =
     let shelf = c.args.shelf.now in
     let rs = g.S.Shelf.records shelf in
     let k = c.args.entry in
     let own = c.requires ∙ ap Ok (sym c.told-opened.ensures) in
     let all = many rs (g.S.Shelf.room shelf) (g.S.Shelf.laws.whole shelf) c.told-opened.result own in
-    let some : numbered_in k (length (entries_of rs)) ≡ true = ap (numbered_in k) all ∙ sym c.if-not-is-among.ensures in
-    let t = c.trailer-of-t.result in
-    let is = no_record k c.args.number (entries_of rs) some rs t c.trailer-of-t.ensures.entry c.trailer-of-t.ensures.inside (sym c.if-not-is-among-2.ensures) in
+    let some : numbered_in k (length (entries_of rs)) ≡ true = ap (numbered_in k) all ∙ sym c.if-not-is_among.ensures in
+    let t = c.trailer_of-t.result in
+    let is = no_record k c.args.number (entries_of rs) some rs t c.trailer_of-t.ensures.entry c.trailer_of-t.ensures.inside (sym c.if-not-is_among-2.ensures) in
     record { answer = ap fetch_answer is; buffer = ap (λ r. fetch_bytes r c.args.out.now) is }
 
 pub returns : goal.returns
@@ -34,7 +34,7 @@ returns g c =
     let k = c.args.entry in
     let own = c.requires ∙ ap Ok (sym c.told-opened.ensures) in
     let all = many rs (g.S.Shelf.room shelf) (g.S.Shelf.laws.whole shelf) c.told-opened.result own in
-    let some : numbered_in k (length (entries_of rs)) ≡ true = ap (numbered_in k) all ∙ sym c.if-not-is-among.ensures in
-    let t = c.trailer-of-t.result in
-    let is = record_found k c.args.number (entries_of rs) some rs t c.trailer-of-t.ensures.entry c.trailer-of-t.ensures.inside (sym c.if-not-is-among-2.ensures) in
-    record { answer = ap fetch_answer is; buffer = c.record-at.ensures ∙ ap (λ r. fetch_bytes r c.args.out.now) is }
+    let some : numbered_in k (length (entries_of rs)) ≡ true = ap (numbered_in k) all ∙ sym c.if-not-is_among.ensures in
+    let t = c.trailer_of-t.result in
+    let is = record_found k c.args.number (entries_of rs) some rs t c.trailer_of-t.ensures.entry c.trailer_of-t.ensures.inside (sym c.if-not-is_among-2.ensures) in
+    record { answer = ap fetch_answer is; buffer = c.record_at.ensures ∙ ap (λ r. fetch_bytes r c.args.out.now) is }

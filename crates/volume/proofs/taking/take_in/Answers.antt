@@ -15,64 +15,64 @@ use Rattle.volume.proofs.taking.take_in.Goals as goal
 
 pub admit-requires : goal.admit-requires
 admit-requires g c =
-    let few = few-records (length c.args.payers.now) (g.E.Edition.meaning c.args.edition.now) c.args.file.now c.in-ok-counts.counts c.in-ok-counts.ensures.answer in
-    record { own = c.requires; counted = c.measure-lines-size.ensures.records; few = omega (arith, few, c.measure-lines-size.ensures.records) }
+    let few = few-records (length c.args.payers.now) (g.E.Edition.meaning c.args.edition.now) c.args.file.now c.in_ok-counts.counts c.in_ok-counts.ensures.answer in
+    record { own = c.requires; counted = c.measure_lines-size.ensures.records; few = omega (arith, few, c.measure_lines-size.ensures.records) }
 
-pub returns-in-err-admit : goal.returns-in-err-admit
-returns-in-err-admit g c =
+pub returns-in_err-admit : goal.returns-in_err-admit
+returns-in_err-admit g c =
     let shelf = c.args.shelf.now in
     let rs = g.S.Shelf.records shelf in
     let limit = g.S.Shelf.room shelf in
     let t = c.args.volume.now in
     let e = front (slots c.args.file.now) in
-    let refused = err_from_is_err_and c.from-residual-in-err-admit.result c.from-residual-in-err-admit.ensures.1 in
-    let is : c.from-residual-in-err-admit.result ≡ Err c.in-err-admit.field-0.0 = refused.1 ∙ ap Err refused.2 in
+    let refused = err_from_is_err_and c.from_residual-in_err-admit.result c.from_residual-in_err-admit.ensures.1 in
+    let is : c.from_residual-in_err-admit.result ≡ Err c.in_err-admit.field-0.0 = refused.1 ∙ ap Err refused.2 in
     record {
-      answer = is ∙ not-admitted _ c.in-ok-counts.counts c.in-err-admit.field-0.0 limit rs t e c.in-ok-counts.ensures.answer (sym c.in-err-admit.was ∙ c.admit.ensures);
+      answer = is ∙ not-admitted _ c.in_ok-counts.counts c.in_err-admit.field-0.0 limit rs t e c.in_ok-counts.ensures.answer (sym c.in_err-admit.was ∙ c.admit.ensures);
       list = ap (λ q. take_records q rs t e) (sym is);
       token = ap (λ q. take_token q rs t e) (sym is);
       limit = refl;
       same = g.S.Shelf.laws.same_refl shelf;
-      entries = made_none (λ _. entries_of rs ≡ entries_of rs ++ e ∷ []) c.from-residual-in-err-admit.result c.in-err-admit.field-0.0 is;
+      entries = made_none (λ _. entries_of rs ≡ entries_of rs ++ e ∷ []) c.from_residual-in_err-admit.result c.in_err-admit.field-0.0 is;
       own = c.requires;
     }
 
-pub overflow-add-trailer : goal.overflow-add-trailer
-overflow-add-trailer g c =
+pub overflow_add-trailer : goal.overflow_add-trailer
+overflow_add-trailer g c =
     let shelf = c.args.shelf.now in
     omega (arith, few-entries (g.S.Shelf.records shelf) (g.S.Shelf.room shelf) (g.S.Shelf.laws.whole shelf) c.args.volume.now c.requires, g.S.Shelf.laws.inside shelf, g.S.Shelf.laws.bound shelf)
 
-pub lay-lines-requires : goal.lay-lines-requires
-lay-lines-requires g c =
+pub lay_lines-requires : goal.lay_lines-requires
+lay_lines-requires g c =
     let shelf = c.args.shelf.now in
     let rs = g.S.Shelf.records shelf in
     let e = front (slots c.args.file.now) in
-    omega (arith, has_room (g.S.Shelf.room shelf) (length rs) (entries_of rs) e (sym c.in-ok-admit.was ∙ c.admit.ensures))
+    omega (arith, has_room (g.S.Shelf.room shelf) (length rs) (entries_of rs) e (sym c.in_ok-admit.was ∙ c.admit.ensures))
 
-pub lay-trailer-requires : goal.lay-trailer-requires
-lay-trailer-requires g c =
+pub lay_trailer-requires : goal.lay_trailer-requires
+lay_trailer-requires g c =
     let shelf = c.args.shelf.now in
     let rs = g.S.Shelf.records shelf in
     let e = front (slots c.args.file.now) in
-    let room = has_room (g.S.Shelf.room shelf) (length rs) (entries_of rs) e (sym c.in-ok-admit.was ∙ c.admit.ensures) in
-    omega (arith, room, ap length c.lay-lines.ensures.list ∙ length-append rs e, c.lay-lines.ensures.limit)
+    let room = has_room (g.S.Shelf.room shelf) (length rs) (entries_of rs) e (sym c.in_ok-admit.was ∙ c.admit.ensures) in
+    omega (arith, room, ap length c.lay_lines.ensures.list ∙ length-append rs e, c.lay_lines.ensures.limit)
 
-pub overflow-add-volume : goal.overflow-add-volume
-overflow-add-volume g c =
+pub overflow_add-volume : goal.overflow_add-volume
+overflow_add-volume g c =
     let shelf = c.args.shelf.now in
     omega (arith, few-entries (g.S.Shelf.records shelf) (g.S.Shelf.room shelf) (g.S.Shelf.laws.whole shelf) c.args.volume.now c.requires, g.S.Shelf.laws.inside shelf, g.S.Shelf.laws.bound shelf)
 
-pub overflow-add-volume-2 : goal.overflow-add-volume-2
-overflow-add-volume-2 g c =
-    let few = few-records (length c.args.payers.now) (g.E.Edition.meaning c.args.edition.now) c.args.file.now c.in-ok-counts.counts c.in-ok-counts.ensures.answer in
-    omega (arith, few, c.measure-lines-size.ensures.records)
+pub overflow_add-volume-2 : goal.overflow_add-volume-2
+overflow_add-volume-2 g c =
+    let few = few-records (length c.args.payers.now) (g.E.Edition.meaning c.args.edition.now) c.args.file.now c.in_ok-counts.counts c.in_ok-counts.ensures.answer in
+    omega (arith, few, c.measure_lines-size.ensures.records)
 
-pub overflow-add-volume-3 : goal.overflow-add-volume-3
-overflow-add-volume-3 g c =
+pub overflow_add-volume-3 : goal.overflow_add-volume-3
+overflow_add-volume-3 g c =
     let shelf = c.args.shelf.now in
-    let few = few-records (length c.args.payers.now) (g.E.Edition.meaning c.args.edition.now) c.args.file.now c.in-ok-counts.counts c.in-ok-counts.ensures.answer in
+    let few = few-records (length c.args.payers.now) (g.E.Edition.meaning c.args.edition.now) c.args.file.now c.in_ok-counts.counts c.in_ok-counts.ensures.answer in
     let last = last-is-count (g.S.Shelf.records shelf) (g.S.Shelf.room shelf) (g.S.Shelf.laws.whole shelf) c.args.volume.now c.requires in
-    omega (arith, few, last, c.measure-lines-size.ensures.records, g.S.Shelf.laws.inside shelf, g.S.Shelf.laws.bound shelf)
+    omega (arith, few, last, c.measure_lines-size.ensures.records, g.S.Shelf.laws.inside shelf, g.S.Shelf.laws.bound shelf)
 
 pub returns : goal.returns
 returns g c =
@@ -85,24 +85,24 @@ returns g c =
     let m = g.E.Edition.meaning c.args.edition.now in
     let file = c.args.file.now in
     let e = front (slots file) in
-    let counts = c.in-ok-counts.counts in
-    let ok = c.in-ok-counts.ensures.answer in
-    let size = c.measure-lines-size.ensures in
-    let passed : Ok tt ≡ admitted limit (length rs) (entries_of rs) e = sym c.in-ok-admit.was ∙ c.admit.ensures in
+    let counts = c.in_ok-counts.counts in
+    let ok = c.in_ok-counts.ensures.answer in
+    let size = c.measure_lines-size.ensures in
+    let passed : Ok tt ≡ admitted limit (length rs) (entries_of rs) e = sym c.in_ok-admit.was ∙ c.admit.ensures in
     let room = has_room limit (length rs) (entries_of rs) e passed in
-    let is = trailer-is cap m file counts ok rs limit whole t c.requires c.measure-lines-size.result.records c.measure-lines-size.result.deposits size.records size.deposits in
-    let lies = taken_is cap m file counts ok rs limit whole t c.requires _ (g.S.Shelf.records c.lay-lines.new.shelf) (g.S.Shelf.records c.lay-trailer.new.shelf) is c.lay-lines.ensures.list c.lay-trailer.ensures.list in
+    let is = trailer-is cap m file counts ok rs limit whole t c.requires c.measure_lines-size.result.records c.measure_lines-size.result.deposits size.records size.deposits in
+    let lies = taken_is cap m file counts ok rs limit whole t c.requires _ (g.S.Shelf.records c.lay_lines.new.shelf) (g.S.Shelf.records c.lay_trailer.new.shelf) is c.lay_lines.ensures.list c.lay_trailer.ensures.list in
     let f = found cap m file counts ok rs limit whole t c.requires (g.S.Shelf.laws.bound shelf) room in
-    let last : t.last + (c.measure-lines-size.result.records + 1) ≡ length rs + length e + 1 = omega (arith, last-is-count rs limit whole t c.requires, size.records) in
-    let kept = c.lay-trailer.ensures.limit ∙ c.lay-lines.ensures.limit in
+    let last : t.last + (c.measure_lines-size.result.records + 1) ≡ length rs + length e + 1 = omega (arith, last-is-count rs limit whole t c.requires, size.records) in
+    let kept = c.lay_trailer.ensures.limit ∙ c.lay_lines.ensures.limit in
     record {
       answer = taken_in _ counts limit rs t e ok passed;
       list = lies;
       token = λ i. record { entries = t.entries + 1; last = last i };
       limit = kept;
-      same = g.S.Shelf.laws.same_trans shelf c.lay-lines.new.shelf c.lay-trailer.new.shelf c.lay-lines.ensures.same c.lay-trailer.ensures.same;
+      same = g.S.Shelf.laws.same_trans shelf c.lay_lines.new.shelf c.lay_trailer.new.shelf c.lay_lines.ensures.same c.lay_trailer.ensures.same;
       entries = ap entries_of lies ∙ f.entries;
       own =
-          ap (found_on (g.S.Shelf.records c.lay-trailer.new.shelf)) kept ∙ ap (λ x. found_on x limit) lies ∙ f.opens
+          ap (found_on (g.S.Shelf.records c.lay_trailer.new.shelf)) kept ∙ ap (λ x. found_on x limit) lies ∙ f.opens
           ∙ ap (λ n. Ok (record { entries = t.entries + 1; last = n; standing = Open })) (sym last);
     }

@@ -9,10 +9,10 @@ pub returns : goal.returns
 returns c =
     let bytes = c.args.self.now.bytes.now in
     let count = c.args.self.now.count in
-    let n = c.held-count-count.result in
+    let n = c.held_count-count.result in
     let long = length_held bytes count in
-    let after = c.copy-from-slice.ensures.after in
-    let size : length c.copy-from-slice.new.self ≡ 80 = ap length after ∙ c.told-item in
+    let after = c.copy_from_slice.ensures.after in
+    let size : length c.copy_from_slice.new.self ≡ 80 = ap length after ∙ c.told-item in
     let is : n ≡ min count (places bytes) = omega arith in
     let less : n < places bytes = omega arith in
     let room : length (held bytes count) < places bytes = omega arith in

@@ -12,5 +12,5 @@ returns c =
     let low : 0 < n = omega arith in
     let high : n ≤ min count (places bytes) = omega arith in
     let in_list : n ≤ length (held bytes count) = omega arith in
-    let is = c.copy-from-slice.ensures.after ∙ c.record-bytes.ensures.bytes ∙ held_at bytes count n c.args.out.now low high in
+    let is = c.copy_from_slice.ensures.after ∙ c.record_bytes.ensures.bytes ∙ held_at bytes count n c.args.out.now low high in
     record { answer = search rules; buffer = search rules }
