@@ -1,5 +1,5 @@
 -- The first entry with a time stamp, sought from the last entry back.
-use Rattle.std.proofs.Common.{◌≡◌, ℕ, zero, suc, ◌+◌, ◌-◌, ◌<◌, ◌≤◌, Bool, true, false, cond, List, [], ◌∷◌, ◌++◌, map, reverse, length, get_or, Some, None, Ok, Option, sym, refl, ap, ◌∙◌, arith}
+use Rattle.std.proofs.Common.{◌≡◌, ℕ, suc, ◌+◌, ◌-◌, ◌<◌, ◌≤◌, Bool, true, false, cond, List, [], ◌∷◌, ◌++◌, map, reverse, length, get_or, Some, None, Ok, Option, sym, refl, ap, ◌∙◌, arith}
 use mathlib.Core.List.{reverse-cons}
 use Rattle.std.proofs.lemmas.List.Edits.{length-between, get_or-between, between_none}
 use Rattle.std.proofs.lemmas.List.{length-map, length-reverse, nil_from_length}
@@ -12,8 +12,8 @@ use Rattle.trailer.specs.Trailers.{read_trailer}
 use Rattle.filing.specs.Taking.{start_in, start_of, same_stamp, first_same}
 use Rattle.filing.specs.Volumes.{Records, Part, walk, entry_of}
 use Rattle.filing.proofs.Results.{err_not_ok}
-use Rattle.entries.specs.Walks.{counted, parts_below, part_of}
-use Rattle.entries.proofs.Walks.{placed_at, counted_ok, below_some, stepped, walk_none}
+use Rattle.entries.specs.Walks.{parts_below, part_of}
+use Rattle.entries.proofs.Walks.{placed_at, below_some, stepped, walk_none}
 
 -- what has no start record has no time stamp
 same_none : (x : Option Start) → same_stamp x None ≡ false

@@ -4,7 +4,7 @@ use Rattle.record.specs.declared.lines.LineEnd.{LineEnd}
 use Rattle.record.specs.Classes.{class_of}
 use Rattle.record.specs.Editions.{bare}
 use Rattle.record.specs.Lines.{cut, width}
-use Rattle.manual.specs.Slots.{Slot, whole, broken, after_cut, slots}
+use Rattle.manual.specs.Slots.{whole, broken, after_cut, slots}
 use Rattle.manual.specs.Accepting.{front}
 use Rattle.manual.proofs.Cutting.{slots_nil, slots-step}
 use Rattle.shelf.specs.Answers.{added}

@@ -1,15 +1,12 @@
 -- The walk over a shelf, trailer by trailer.
-use Rattle.std.proofs.Common.{◌≡◌, ℕ, zero, suc, ◌+◌, ◌-◌, ◌<◌, ◌≤◌, Bool, true, false, cond, ◌&&◌, eqb, ltb, leb, List, [], ◌∷◌, ◌++◌, length, get_or, take, drop, IfSome, Some, None, Ok, Err, Option, Result, sym, refl, ap, ◌∙◌, subst, arith, length-drop}
-use Rattle.std.proofs.lemmas.List.{get_or_default, nil_from_length}
-use Rattle.std.proofs.lemmas.Bool.{and_parts, and_from, cond-true, cond-false, eqb-true, lt-ltb, le-leb, false≢true}
-use Rattle.std.proofs.lemmas.List.Edits.{length-between}
+use Rattle.std.proofs.Common.{◌≡◌, ℕ, zero, suc, ◌+◌, ◌-◌, ◌<◌, ◌≤◌, Bool, true, false, cond, ◌&&◌, List, [], ◌∷◌, length, get_or, IfSome, Some, None, Ok, Err, Option, Result, sym, refl, ap, ◌∙◌, arith}
+use Rattle.std.proofs.lemmas.List.{nil_from_length}
+use Rattle.std.proofs.lemmas.Bool.{and_parts, eqb-true, false≢true}
 use Rattle.std.specs.List.{between}
 use Rattle.trailer.specs.declared.layout.Trailer.{Trailer}
-use Rattle.trailer.specs.declared.layout.Totals.{Totals}
 use Rattle.trailer.specs.Trailers.{is_checked, is_placed, fields_of, read_trailer}
-use Rattle.manual.specs.declared.faults.FileFault.{FileFault}
 use Rattle.filing.specs.declared.faults.VolumeFault.{VolumeFault}
-use Rattle.filing.specs.declared.faults.VolumeFault.TheVariants.{NoTrailer, Differs}
+use Rattle.filing.specs.declared.faults.VolumeFault.TheVariants.{NoTrailer}
 use Rattle.field.specs.Chains.{then}
 use Rattle.filing.specs.Volumes.{Reads, Records, Part, after_trailer, before, walk, compared, judge, parts_or, begins_98, last_of}
 use Rattle.filing.proofs.Results.{ok_same, err_not_ok, then_ok}

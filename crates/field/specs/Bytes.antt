@@ -1,5 +1,5 @@
 -- What a byte may be, and a test of every byte of a part.
-use Rattle.std.specs.Prelude.{ℕ, Bool, true, false, ◌&&◌, ◌||◌, List, [], ◌∷◌, ◌==◌, nat_le}
+use Rattle.std.specs.Prelude.{ℕ, Bool, true, ◌&&◌, ◌||◌, List, [], ◌∷◌, ◌==◌, nat_le}
 use Rattle.field.specs.declared.bytes.Sort.{Sort}
 use Rattle.field.specs.declared.bytes.Sort.TheVariants.{Digit, Text, Blank}
 

@@ -1,5 +1,5 @@
 -- One reading after another, where each may come to nothing.
-use Rattle.std.specs.Prelude.{Bool, true, false, Some, None, Ok, Err, Option, Result}
+use Rattle.std.specs.Prelude.{Some, None, Ok, Err, Option, Result}
 
 -- what f makes of the value, where there is one
 abbrev pub and_then : {T U : Type 0} → Option T → (T → Option U) → Option U

@@ -1,5 +1,5 @@
 -- The forms of a reference, by its code.
-use Rattle.std.specs.Prelude.{ℕ, ◌+◌, Bool, true, false, cond, not, ◌&&◌, ◌||◌, List, [], ◌∷◌, Some, None, Option, ◌==◌, slice_index}
+use Rattle.std.specs.Prelude.{ℕ, ◌+◌, Bool, cond, not, ◌&&◌, ◌||◌, List, [], ◌∷◌, Some, None, Option, ◌==◌, slice_index}
 use Rattle.std.specs.Option.{option_map}
 use Rattle.field.specs.declared.references.ReferenceForm.{ReferenceForm}
 use Rattle.field.specs.declared.references.ReferenceForm.TheVariants.{Blank, BlankPaper, Numeric, Unchecked, Confirmed, Rejected}

@@ -1,5 +1,5 @@
 -- What an entry into the payers' table says of the judging machine.
-use Rattle.std.proofs.Common.{◌≡◌, ℕ, Bool, true, false, cond, not, ◌||◌, eqb, leb, List, length, Some, None, Option, sym, refl, ap, ◌∙◌, arith}
+use Rattle.std.proofs.Common.{◌≡◌, ℕ, Bool, true, false, cond, not, ◌||◌, eqb, leb, List, length, Some, None, sym, refl, ap, ◌∙◌, arith}
 use Rattle.sums.specs.declared.Row.{Row}
 use Rattle.sums.specs.Table.{entered, enter}
 use Rattle.manual.specs.Judging.{Mode, room, payers_after}

@@ -1,5 +1,5 @@
 -- Entries that can be read: what they come to fits a trailer's digits, and a file that is accepted is one.
-use Rattle.std.proofs.Common.{◌≡◌, ℕ, suc, ◌+◌, ◌*◌, ◌^◌, ◌<◌, ◌≤◌, Bool, true, false, cond, ◌&&◌, eqb, leb, ◌⊎◌, List, [], ◌∷◌, map, length, Ok, Err, Result, sym, refl, ap, ◌∙◌, subst, inl, inr, ⊎_elim, arith}
+use Rattle.std.proofs.Common.{◌≡◌, ℕ, suc, ◌+◌, ◌*◌, ◌<◌, ◌≤◌, Bool, true, false, cond, ◌&&◌, eqb, leb, ◌⊎◌, List, [], ◌∷◌, map, length, Ok, Err, Result, sym, refl, ap, ◌∙◌, subst, inl, inr, ⊎_elim, arith}
 use Rattle.std.specs.List.{between, AllByRecursion as All}
 use Rattle.std.proofs.lemmas.Bool.{false≢true, eqb-true, leb-true, and_parts, or_cases, cond-true}
 use Rattle.field.specs.declared.money.Currency.{Currency}
@@ -9,7 +9,6 @@ use Rattle.field.specs.Chains.{then}
 use Rattle.record.specs.declared.kinds.Kind.{Kind}
 use Rattle.record.specs.declared.fields.Core.{Core}
 use Rattle.record.specs.declared.fields.Core.TheVariants as core
-use Rattle.record.specs.declared.fields.Deposit.{Deposit}
 use Rattle.record.specs.declared.fields.End.{End}
 use Rattle.record.specs.declared.fields.Field.{Field}
 use Rattle.record.specs.declared.classes.Class.{Class}
@@ -22,13 +21,11 @@ use Rattle.record.specs.Editions.{Meaning, bare}
 use Rattle.sums.specs.Table.{capped}
 use Rattle.trailer.specs.declared.layout.Totals.{Totals}
 use Rattle.trailer.specs.Laws.{Fits}
-use Rattle.manual.specs.declared.faults.Cause.{Cause}
-use Rattle.manual.specs.declared.faults.Cause.TheVariants as cause
 use Rattle.manual.specs.declared.faults.FileFault.{FileFault}
 use Rattle.manual.specs.declared.places.Place.{Place}
 use Rattle.manual.specs.declared.places.Place.TheVariants as place
 use Rattle.manual.specs.Slots.{Slot, whole, broken, slots}
-use Rattle.manual.specs.Judging.{State, Section as OpenSection, one_currency, among, may_follow, in_order, moved, core_tests, tests, place_after, section_after, begin, ended, at_record, then_on, slot_step, step, judge, check_of}
+use Rattle.manual.specs.Judging.{State, Section as OpenSection, one_currency, among, may_follow, moved, core_tests, tests, place_after, section_after, begin, ended, slot_step, step, judge, check_of}
 use Rattle.manual.specs.Laws.{NotBefore, NoRiderFault, of_payers, judging, not_judging}
 use Rattle.manual.specs.Manual.{Line, records, Reading, Follows}
 use Rattle.manual.specs.Accepting.{front}
@@ -43,7 +40,7 @@ use Rattle.manual.proofs.Payers.{unknown_passes, payers_only}
 use Rattle.manual.proofs.Slotting.{slots-lines}
 use Rattle.manual.proofs.Accepting.{right}
 use Rattle.filing.specs.declared.deposits.Deposits.{Deposits}
-use Rattle.filing.specs.Entries.{slot_of, entry_slots, in_currency, with_deposit, deposits_core, deposits_behind, deposits_from, no_deposits, totals_of, reads}
+use Rattle.filing.specs.Entries.{slot_of, entry_slots, in_currency, deposits_core, deposits_behind, deposits_from, no_deposits, totals_of, reads}
 
 -- The deposits never come to more than the payments.
 

@@ -1,6 +1,5 @@
 -- Taking a file in: what is asked beyond that it is accepted, and what the shelf then holds.
 use Rattle.std.specs.Prelude.{ℕ, ◌+◌, Bool, true, false, cond, List, [], ◌∷◌, length, Some, None, Ok, Err, Option, Result, ◌==◌, nat_le}
-use Rattle.field.specs.Chains.{then}
 use Rattle.record.specs.declared.fields.Core.{Core}
 use Rattle.record.specs.declared.fields.Core.TheVariants as core
 use Rattle.record.specs.declared.fields.End.{End}

@@ -1,5 +1,5 @@
 -- Checking is right by the manual: the theorem of specs/Accepting.
-use Rattle.std.proofs.Common.{◌≡◌, ℕ, suc, ◌+◌, ◌<◌, ◌≤◌, Bool, true, false, eqb, ◌⊎◌, List, [], ◌∷◌, map, length, Some, None, Ok, Err, Option, Result, sym, refl, ap, ◌∙◌, subst, inl, inr, arith}
+use Rattle.std.proofs.Common.{◌≡◌, ℕ, ◌+◌, ◌≤◌, eqb, ◌⊎◌, List, [], ◌∷◌, map, length, Some, None, Ok, Err, Option, Result, sym, refl, ap, ◌∙◌, subst, inl, inr, arith}
 use Rattle.std.specs.List.{AllByRecursion as All}
 use Rattle.std.proofs.lemmas.List.{length-map}
 use Rattle.std.proofs.lemmas.Bool.{false≢true}
@@ -16,19 +16,19 @@ use Rattle.record.specs.Rows.{kind_in}
 use Rattle.sums.specs.Laws.{distinct}
 use Rattle.manual.specs.declared.faults.Cause.TheVariants as cause
 use Rattle.manual.specs.declared.faults.FileFault.{FileFault}
-use Rattle.manual.specs.Slots.{Slot, whole, broken, slots}
-use Rattle.manual.specs.Judging.{State, begin, judge, check_of}
+use Rattle.manual.specs.Slots.{whole, slots}
+use Rattle.manual.specs.Judging.{begin, judge, check_of}
 use Rattle.manual.specs.Laws.{NotBefore, judging}
 use Rattle.manual.specs.Manual.{Line, records, Read, Item, Section, Reading, leaf, leaves, total, first_kind, cores, last_kind, level_after, SectionStands, CountsStand, Follows}
 use Rattle.manual.specs.Accepting.{Roomy, Right}
-use Rattle.manual.proofs.Roles.{Part, Role, start, head, part, deposit, end, role_of, role, leaf_of, Run, is-payment, is_deduction, is_extra, is-deposit}
+use Rattle.manual.proofs.Roles.{Part, Role, start, deposit, end, role_of, role, leaf_of, Run}
 use Rattle.manual.proofs.Trees.{written, parts_then, items_roles, sections_roles, roles}
 use Rattle.manual.proofs.Unique.{role_leaf, leaf_role, leaves_roles, same-leaves, tally_payments, tally_deductions, tally_extras, tally_deposits}
 use Rattle.manual.proofs.Bounds.{Modest, bounded_begin, read_kind, read_modest}
 use Rattle.manual.proofs.Sections.{Tame, Section-runs, section_stands, section_runs}
 use Rattle.manual.proofs.Grammar.{Ends, Whole, sound, complete}
-use Rattle.manual.proofs.Along.{named, Along, none, core, rider, unknown, level_from, Coded, Riders, along_coded, along_cores, along_riders, along}
-use Rattle.manual.proofs.Judged.{Ready, Accepted, judge_ok, ok_judge}
+use Rattle.manual.proofs.Along.{named, Along, none, core, rider, unknown, level_from, Riders, along_coded, along_cores, along_riders, along}
+use Rattle.manual.proofs.Judged.{Ready, judge_ok, ok_judge}
 use Rattle.manual.proofs.Slotting.{slots-lines, lines-slots}
 use Rattle.manual.proofs.Payers.{more_rows}
 use Rattle.manual.proofs.TooShort.{seven}

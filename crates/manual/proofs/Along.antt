@@ -1,11 +1,10 @@
 -- Records one after another, with their roles: every code is two digits, every layout is kept, every rider is in its place.
-use Rattle.std.proofs.Common.{◌≡◌, ℕ, Bool, true, false, List, [], ◌∷◌, ◌++◌, map, length, is_some, Some, None, Ok, Err, Option, Result, sym, refl, ap, ◌∙◌, subst, arith}
+use Rattle.std.proofs.Common.{◌≡◌, ℕ, true, List, [], ◌∷◌, ◌++◌, map, length, is_some, Some, None, Ok, Err, Option, Result, sym, refl, ap, ◌∙◌, subst, arith}
 use Rattle.std.specs.List.{between, AllByRecursion as All}
 use Rattle.std.proofs.lemmas.Bool.{false≢true}
-use Rattle.field.specs.Chains.{then, and_then}
+use Rattle.field.specs.Chains.{then}
 use Rattle.record.specs.declared.kinds.Kind.{Kind}
 use Rattle.record.specs.declared.fields.Core.{Core}
-use Rattle.record.specs.declared.fields.Field.{Field}
 use Rattle.record.specs.declared.editions.Level.{Level}
 use Rattle.record.specs.declared.editions.Level.TheVariants as level
 use Rattle.record.specs.declared.classes.Class.{Class}
@@ -15,7 +14,7 @@ use Rattle.record.specs.Reserve.{used}
 use Rattle.record.specs.Classes.{code_in, class_of}
 use Rattle.record.specs.Editions.{Meaning, known}
 use Rattle.record.specs.Laws.{kind_at}
-use Rattle.manual.specs.Manual.{Read, leaf, read_by, core_then, cores, last_of, last_kind, level_after, RiderStands}
+use Rattle.manual.specs.Manual.{Read, leaf, read_by, core_then, cores, last_of, last_kind, level_after}
 use Rattle.manual.proofs.Roles.{Role, role_of, role, leaf_of}
 use Rattle.manual.proofs.Unique.{leaf_role}
 use Rattle.manual.proofs.Classes as classes

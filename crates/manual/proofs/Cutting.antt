@@ -4,7 +4,7 @@ use mathlib.Core.Path.{fun_ext}
 use Rattle.record.specs.declared.lines.LineEnd.{LineEnd}
 use Rattle.record.specs.declared.lines.LineEnd.TheVariants.{Lf, CrLf}
 use Rattle.record.specs.Lines.{cut, width}
-use Rattle.manual.specs.Slots.{Slot, whole, broken, after_cut, slots_in, slots}
+use Rattle.manual.specs.Slots.{whole, broken, after_cut, slots_in, slots}
 
 pub fewer : (n b : ℕ) (bs : List ℕ) → length (b ∷ bs) ≤ suc n → (e : LineEnd) → length (drop (width e) (b ∷ bs)) ≤ n
 fewer n b bs h Lf = omega (arith, length-drop 80 bs)

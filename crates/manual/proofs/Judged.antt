@@ -1,6 +1,6 @@
 -- The judge accepts slots exactly where they are whole records, at most 50,000, over whose roles the machine runs.
 use Rattle.std.proofs.Common.{◌≡◌, ℕ, suc, ◌+◌, ◌≤◌, Bool, true, false, cond, leb, List, [], ◌∷◌, map, length, Some, None, Ok, Err, Option, Result, sym, refl, ap, ◌∙◌, subst, arith}
-use Rattle.std.specs.List.{between, AllByRecursion as All}
+use Rattle.std.specs.List.{between}
 use Rattle.std.proofs.lemmas.Bool.{false≢true, cond-true, leb-true, le-leb}
 use Rattle.record.specs.declared.kinds.Kind.{Kind}
 use Rattle.record.specs.declared.fields.Core.{Core}
@@ -14,7 +14,7 @@ use Rattle.record.specs.declared.classes.Class.TheVariants as class
 use Rattle.record.specs.Layouts.{read_core}
 use Rattle.record.specs.Rows.{kind_in}
 use Rattle.record.specs.Classes.{code_in, class_of}
-use Rattle.record.specs.Editions.{Meaning, known}
+use Rattle.record.specs.Editions.{Meaning}
 use Rattle.record.specs.Laws.{kind_at}
 use Rattle.manual.specs.declared.faults.Cause.{Cause}
 use Rattle.manual.specs.declared.faults.Cause.TheVariants as cause
@@ -22,7 +22,7 @@ use Rattle.manual.specs.declared.faults.FileFault.{FileFault}
 use Rattle.manual.specs.declared.places.Place.{Place}
 use Rattle.manual.specs.declared.places.Place.TheVariants as place
 use Rattle.manual.specs.Slots.{Slot, whole, broken}
-use Rattle.manual.specs.Judging.{Mode, State, begun, is_file, is_section, is_item, sits, moved, core_tests, core_after, tests, after, first, step, ended, at_record, then_on, judge}
+use Rattle.manual.specs.Judging.{Mode, State, begun, is_file, is_section, is_item, sits, moved, core_tests, tests, step, ended, at_record, then_on, judge}
 use Rattle.manual.specs.Laws.{judging}
 use Rattle.manual.specs.Manual.{level_after}
 use Rattle.manual.proofs.Roles.{Role, start, opening, head, part, deposit, end, role_of, place_behind, role_tests, behind, Run}

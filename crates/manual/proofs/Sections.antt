@@ -1,5 +1,5 @@
 -- The machine passes over the items of a section and its deposit exactly where the section is right and the payer table has rows enough.
-use Rattle.std.proofs.Common.{◌≡◌, ℕ, zero, suc, ◌+◌, ◌^◌, ◌<◌, ◌≤◌, Bool, true, false, cond, ◌&&◌, eqb, ltb, leb, List, [], ◌∷◌, map, length, get_or, is_some, Some, None, Option, sym, refl, ap, ◌∙◌, subst, arith}
+use Rattle.std.proofs.Common.{◌≡◌, ℕ, zero, suc, ◌+◌, ◌^◌, ◌<◌, ◌≤◌, true, false, cond, ◌&&◌, eqb, ltb, leb, List, [], ◌∷◌, map, length, get_or, is_some, Some, None, Option, sym, refl, ap, ◌∙◌, subst, arith}
 use Rattle.std.specs.List.{AllByRecursion as All}
 use Rattle.std.proofs.lemmas.List.{length-map}
 use Rattle.std.proofs.lemmas.Bool.{false≢true, cond-true, eqb-true, eq-eqb, leb-true, le-leb, ltb-true, lt-ltb, and_parts, and_from, or_parts}
@@ -12,7 +12,7 @@ use Rattle.sums.specs.Laws.{go_on, keys, Within, run, among, distinct, column_of
 use Rattle.manual.specs.declared.places.Stage.TheVariants as stage
 use Rattle.manual.specs.Judging.{Section as OpenSection, one_currency, room, none_owes, opened, headed}
 use Rattle.manual.specs.Laws.{judging}
-use Rattle.manual.specs.Manual.{Read, Item, Section, total, one_payment, paid, deducted, paid_by, deducted_by, ItemStands, SectionStands}
+use Rattle.manual.specs.Manual.{Read, Item, Section, total, one_payment, paid, deducted, ItemStands, SectionStands}
 use Rattle.manual.specs.Accepting.{Roomy}
 use Rattle.manual.proofs.Roles.{adds, takes, agrees, with_head}
 use Rattle.manual.proofs.Tables.{entering}

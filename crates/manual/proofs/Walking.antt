@@ -1,17 +1,14 @@
 -- The judge over the slots of bytes, one line after another.
-use Rattle.std.proofs.Common.{◌≡◌, ℕ, suc, ◌+◌, ◌<◌, ◌≤◌, true, false, cond, leb, List, [], ◌∷◌, length, take, drop, Some, None, Ok, Err, Option, Result, sym, refl, ap, ◌∙◌, add-one, arith}
+use Rattle.std.proofs.Common.{◌≡◌, ℕ, suc, ◌+◌, ◌<◌, ◌≤◌, List, [], ◌∷◌, length, take, drop, Some, None, Ok, Err, Option, sym, ap, ◌∙◌, add-one, arith}
 use Rattle.std.specs.Option.{option_map}
 use Rattle.std.proofs.lemmas.Bool.{cond-true, cond-false, le-leb, lt-leb}
-use Rattle.record.specs.declared.fields.End.{End}
 use Rattle.record.specs.declared.lines.LineEnd.{LineEnd}
-use Rattle.record.specs.Classes.{class_of}
 use Rattle.record.specs.Editions.{Meaning}
 use Rattle.record.specs.Lines.{cut, width}
 use Rattle.manual.specs.declared.faults.Cause.{Cause}
 use Rattle.manual.specs.declared.faults.Cause.TheVariants as cause
-use Rattle.manual.specs.declared.faults.FileFault.{FileFault}
-use Rattle.manual.specs.Slots.{Slot, whole, broken, after_cut, slots}
-use Rattle.manual.specs.Judging.{Mode, State, step, slot_step, then_on, at_record, judge, line_step}
+use Rattle.manual.specs.Slots.{whole, broken, after_cut, slots}
+use Rattle.manual.specs.Judging.{Mode, State, then_on, at_record, judge, line_step}
 use Rattle.manual.proofs.Cutting.{slots_nil, slots-step}
 
 module _ (mode : Mode) (m : Meaning) (n : ℕ) (s : State) where

@@ -1,5 +1,5 @@
 -- The manual: how a file reads, and which files are right. Nothing here runs: `Follows` at the end has a field for each rule.
-use Rattle.std.specs.Prelude.{◌≡◌, ℕ, ◌+◌, ◌<◌, ◌≤◌, Bool, true, false, cond, List, [], ◌∷◌, ◌++◌, map, length, is_some, Some, None, Ok, Err, Option, Result, ◌==◌}
+use Rattle.std.specs.Prelude.{◌≡◌, ℕ, ◌+◌, ◌<◌, ◌≤◌, Bool, true, cond, List, [], ◌∷◌, ◌++◌, map, length, is_some, Some, None, Ok, Option, Result, ◌==◌}
 use Rattle.std.specs.List.{between, AllByRecursion as All}
 use Rattle.field.specs.Chains.{then, and_then}
 use Rattle.record.specs.declared.kinds.Kind.{Kind}

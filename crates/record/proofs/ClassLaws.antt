@@ -1,5 +1,5 @@
 -- The laws of specs/Laws.
-use Rattle.std.proofs.Common.{◌≡◌, ℕ, ◌+◌, ◌-◌, ◌<◌, ◌≤◌, Bool, true, false, cond, ◌&&◌, List, length, get_or, take, drop, set, Some, None, Option, sym, refl, ap, ◌∙◌, arith, lit≤}
+use Rattle.std.proofs.Common.{◌≡◌, ℕ, ◌+◌, ◌-◌, ◌<◌, ◌≤◌, Bool, true, List, length, get_or, take, drop, set, Some, None, Option, sym, refl, ap, ◌∙◌, arith}
 use Rattle.std.specs.List.{between}
 use Rattle.std.proofs.lemmas.List.{get_or-take, drop-take, take-take, take-set-le}
 use Rattle.field.specs.Bytes.{is_text}
@@ -7,11 +7,10 @@ use Rattle.field.specs.Chains.{and_then}
 use Rattle.record.specs.declared.kinds.Kind.{Kind}
 use Rattle.record.specs.declared.editions.Level.{Level}
 use Rattle.record.specs.declared.editions.Level.TheVariants as level
-use Rattle.record.specs.declared.classes.Class.{Class}
-use Rattle.record.specs.declared.classes.Class.TheVariants.{BadCode, Core, Rider, Unknown}
+use Rattle.record.specs.declared.classes.Class.TheVariants.{Core, Unknown}
 use Rattle.record.specs.Kinds.{kind_of}
 use Rattle.record.specs.Layouts.{read_core}
-use Rattle.record.specs.Reserve.{used, Refilled, blanked}
+use Rattle.record.specs.Reserve.{used, Refilled}
 use Rattle.record.specs.Editions.{Meaning, Whole, Extends, known}
 use Rattle.record.specs.Classes.{code_at, code_in, class_of, class_by, class_in, outside, by_level}
 use Rattle.record.specs.Laws.{kind_at, ClassLaws}

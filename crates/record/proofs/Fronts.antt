@@ -1,5 +1,5 @@
 -- A core record's fields are read from the positions that its layout names.
-use Rattle.std.proofs.Common.{◌≡◌, ℕ, ◌+◌, ◌-◌, ◌<◌, ◌≤◌, T, ltb, leb, List, length, get_or, take, drop, Ok, Option, sym, refl, ap, ◌∙◌, le_trans, lt_of_lt_of_le, arith, lit<, lit≤}
+use Rattle.std.proofs.Common.{◌≡◌, ℕ, ◌+◌, ◌-◌, ◌≤◌, T, ltb, leb, List, get_or, take, drop, Ok, Option, sym, ap, ◌∙◌, le_trans, lt_of_lt_of_le, arith, lit<, lit≤}
 use Rattle.std.specs.List.{between}
 use Rattle.std.proofs.lemmas.List.{get_or-take, drop-take, take-take}
 use Rattle.field.specs.declared.references.ReferenceForm.{ReferenceForm}

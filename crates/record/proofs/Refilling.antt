@@ -1,5 +1,5 @@
 -- Setting reserve positions: what it leaves, and that blanking all of them is a run of such changes.
-use Rattle.std.proofs.Common.{◌≡◌, ℕ, zero, suc, ◌+◌, ◌-◌, ◌<◌, ◌≤◌, Bool, true, ◌&&◌, List, [], ◌∷◌, ◌++◌, length, take, drop, set, replicate, sym, refl, ap, ◌∙◌, subst, append_assoc, append-nil, add-zero, add-one, arith, lit≤, length-set}
+use Rattle.std.proofs.Common.{◌≡◌, ℕ, zero, suc, ◌+◌, ◌-◌, ◌≤◌, Bool, true, List, [], ◌∷◌, ◌++◌, length, take, set, replicate, sym, refl, ap, ◌∙◌, subst, append_assoc, append-nil, add-zero, add-one, arith, lit≤, length-set}
 use Rattle.std.proofs.lemmas.List.{take-set-le, take_more_set, take_all, replicate_more}
 use Rattle.std.proofs.lemmas.Bool.{and_parts, and_from}
 use Rattle.field.specs.Bytes.{is_text, every}

@@ -1,8 +1,7 @@
 -- The class of a record: all that is ever asked of it.
-use Rattle.std.specs.Prelude.{ℕ, ◌+◌, ◌-◌, ◌*◌, Bool, true, false, cond, ◌&&◌, List, length, Some, None, Option, slice_index}
+use Rattle.std.specs.Prelude.{ℕ, ◌+◌, ◌-◌, ◌*◌, Bool, cond, ◌&&◌, List, length, Some, None, Option, slice_index}
 use Rattle.std.specs.List.{between}
 use Rattle.field.specs.Bytes.{is_digit}
-use Rattle.field.specs.Chains.{and_then}
 use Rattle.record.specs.declared.kinds.Kind.{Kind}
 use Rattle.record.specs.declared.editions.Level.{Level}
 use Rattle.record.specs.declared.editions.Level.TheVariants as level

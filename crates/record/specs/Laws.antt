@@ -1,5 +1,5 @@
 -- What holds of the class of any record under any editions, in the words of the format.
-use Rattle.std.specs.Prelude.{◌≡◌, ℕ, ◌<◌, ◌≤◌, true, List, length, take, set, Some, Option, slice_set}
+use Rattle.std.specs.Prelude.{◌≡◌, ℕ, ◌<◌, ◌≤◌, true, List, length, take, Some, Option, slice_set}
 use Rattle.field.specs.Bytes.{is_text}
 use Rattle.field.specs.Chains.{and_then}
 use Rattle.record.specs.declared.kinds.Kind.{Kind}

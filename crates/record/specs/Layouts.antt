@@ -1,6 +1,6 @@
 -- The thirteen layouts. A reader is given the 78 bytes behind the code, so position p of the record is index p - 3.
 -- `between a b rest` is positions a + 3 to b + 2.
-use Rattle.std.specs.Prelude.{ℕ, Bool, true, false, cond, ◌&&◌, ◌||◌, List, Some, None, Ok, Err, Option, Result, ◌==◌, nat_le, slice_index}
+use Rattle.std.specs.Prelude.{ℕ, Bool, cond, ◌&&◌, ◌||◌, List, Some, None, Ok, Err, Option, Result, ◌==◌, nat_le, slice_index}
 use Rattle.std.specs.List.{between}
 use Rattle.std.specs.Option.{ok_or}
 use Rattle.field.specs.declared.references.ReferenceForm.{ReferenceForm}

@@ -1,5 +1,5 @@
 -- Lines: a whole record is 80 text bytes, and ends with LF or CR LF.
-use Rattle.std.specs.Prelude.{ℕ, Bool, cond, ◌&&◌, List, length, take, drop, Some, None, Option, ◌==◌, nat_le, slice_index}
+use Rattle.std.specs.Prelude.{ℕ, cond, ◌&&◌, List, length, take, drop, Some, None, Option, ◌==◌, nat_le, slice_index}
 use Rattle.field.specs.Bytes.{is_text, every}
 use Rattle.record.specs.declared.lines.LineEnd.{LineEnd}
 use Rattle.record.specs.declared.lines.LineEnd.TheVariants.{Lf, CrLf}

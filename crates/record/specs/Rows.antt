@@ -7,7 +7,6 @@ use Rattle.record.specs.declared.fields.Core.{Core}
 use Rattle.record.specs.declared.fields.Core.TheVariants as core
 use Rattle.record.specs.declared.fields.Transfer.{Transfer}
 use Rattle.record.specs.declared.rows.Row.{Row}
-use Rattle.record.specs.Kinds.{code_of}
 
 -- the kind of a core record's fields
 abbrev pub kind_in : Core → Kind

@@ -1,5 +1,5 @@
 -- Numbers in a fixed width of decimal digits, and check digits.
-use Rattle.std.specs.Prelude.{ℕ, zero, suc, ◌+◌, ◌-◌, ◌*◌, ◌/◌, ◌%◌, min, Bool, true, false, ◌&&◌, List, [], ◌∷◌, ◌++◌, ◌==◌}
+use Rattle.std.specs.Prelude.{ℕ, zero, suc, ◌+◌, ◌-◌, ◌*◌, ◌/◌, ◌%◌, min, Bool, List, [], ◌∷◌, ◌++◌, ◌==◌}
 
 -- the value of a byte as a digit, at most 9: for a digit, the number that it writes
 abbrev pub value : ℕ → ℕ

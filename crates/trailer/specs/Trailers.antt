@@ -3,7 +3,6 @@ use Rattle.std.specs.Prelude.{ℕ, ◌+◌, Bool, cond, ◌&&◌, List, ◌++◌
 use Rattle.std.specs.List.{between}
 use Rattle.field.specs.Bytes.{is_digit, every}
 use Rattle.trailer.specs.declared.layout.Trailer.{Trailer}
-use Rattle.trailer.specs.declared.layout.Totals.{Totals}
 use Rattle.trailer.specs.Digits.{is_zero, value_of, digits_of, check_of}
 
 -- 78 digits with their check digits behind them

@@ -1,21 +1,19 @@
 -- Entries found by their number.
-use Rattle.std.proofs.Common.{◌≡◌, ℕ, ◌+◌, ◌-◌, ◌<◌, ◌≤◌, Bool, true, false, cond, leb, List, [], map, reverse, length, get_or, Ok, Err, Result, sym, refl, ap, ◌∙◌, arith}
+use Rattle.std.proofs.Common.{◌≡◌, ℕ, ◌+◌, ◌-◌, ◌<◌, ◌≤◌, true, false, leb, List, [], map, reverse, length, get_or, Ok, Err, sym, ap, ◌∙◌, arith}
 use Rattle.std.specs.List.{between}
 use Rattle.std.proofs.lemmas.List.Edits.{length-between, get_or-between}
 use Rattle.std.proofs.lemmas.List.{length-map, length-reverse, get_or-map, get_or-reverse}
 use Rattle.std.proofs.lemmas.Bool.{cond-true, cond-false, and_parts, leb-true}
 use Rattle.trailer.specs.declared.layout.Trailer.{Trailer}
-use Rattle.filing.specs.declared.faults.VolumeFault.{VolumeFault}
 use Rattle.filing.specs.declared.faults.VolumeFault.TheVariants.{NoEntry}
 use Rattle.filing.specs.declared.standing.Opened.{Opened}
 use Rattle.filing.specs.Entries.{reads}
-use Rattle.filing.specs.Volumes.{Records, walk, parts_or, entry_of, top_of, entries_of}
-use Rattle.filing.specs.Laws.{Held}
+use Rattle.filing.specs.Volumes.{Records, walk, entry_of, entries_of}
 use Rattle.filing.proofs.Holds.{walked_back}
 use Rattle.shelf.specs.Records.{Whole}
 use Rattle.entries.specs.Walks.{counted, parts_below, part_of, no_part}
 use Rattle.volume.specs.Tokens.{found_on}
-use Rattle.volume.specs.Taking.{numbered_in, in_entry, fetched}
+use Rattle.volume.specs.Taking.{numbered_in, fetched}
 use Rattle.volume.proofs.Opened.{laws}
 
 -- a shelf that was opened, and what opening found

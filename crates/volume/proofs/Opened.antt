@@ -1,5 +1,5 @@
 -- Opening is exact: the theorem of specs/Laws.
-use Rattle.std.proofs.Common.{◌≡◌, ℕ, ◌+◌, ◌^◌, ◌<◌, ◌≤◌, true, false, cond, List, [], ◌∷◌, length, IfOk, Ok, Err, Result, sym, refl, ap, ◌∙◌, subst, arith, length-append}
+use Rattle.std.proofs.Common.{◌≡◌, ℕ, ◌^◌, ◌<◌, ◌≤◌, true, false, List, [], ◌∷◌, length, IfOk, Ok, Err, Result, sym, refl, ap, ◌∙◌, arith, length-append}
 use Rattle.std.specs.List.{AllByRecursion as All}
 use Rattle.std.proofs.lemmas.Bool.{cond-true, cond-false}
 use Rattle.shelf.specs.Records.{Whole}
@@ -9,8 +9,8 @@ use Rattle.filing.specs.declared.standing.Opened.{Opened}
 use Rattle.filing.specs.declared.standing.Standing.{Standing}
 use Rattle.filing.specs.declared.standing.Standing.TheVariants as standing
 use Rattle.filing.specs.Entries.{reads}
-use Rattle.filing.specs.Volumes.{Records, lay, tail, volume, last_trailer, opening, opening_open, opening_closed, begins_98, last_of, entries_of}
-use Rattle.filing.specs.Laws.{Good, All-good, Room, Stands, FilingLaws}
+use Rattle.filing.specs.Volumes.{Records, lay, tail, last_trailer, opening, opening_open, opening_closed, begins_98, last_of, entries_of}
+use Rattle.filing.specs.Laws.{All-good, Stands, FilingLaws}
 use Rattle.filing.proofs.FilingLaws.{filing_laws}
 use Rattle.filing.proofs.Fitting.{fits}
 use Rattle.filing.proofs.Laid.{fewer}

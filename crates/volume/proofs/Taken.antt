@@ -1,16 +1,15 @@
 -- Taking in: the tests beyond checking, and what is then on the shelf.
-use Rattle.std.proofs.Common.{◌≡◌, ℕ, suc, ◌+◌, ◌<◌, ◌≤◌, Bool, true, false, cond, leb, List, [], ◌∷◌, ◌++◌, map, length, IfOk, Some, None, Ok, Err, Option, Result, sym, refl, ap, ◌∙◌, subst, add-one, arith}
+use Rattle.std.proofs.Common.{◌≡◌, ℕ, ◌+◌, ◌≤◌, Bool, true, false, cond, leb, List, [], ◌∷◌, ◌++◌, length, IfOk, Some, None, Ok, Err, Option, Result, sym, refl, ap, ◌∙◌, add-one, arith}
 use Rattle.std.proofs.lemmas.List.{append_assoc, length-map}
 use Rattle.std.proofs.lemmas.Bool.{cond-true, cond-false, leb-true}
 use Rattle.field.specs.Chains.{then}
 use Rattle.record.specs.declared.fields.End.{End}
-use Rattle.record.specs.declared.fields.Start.{Start}
 use Rattle.record.specs.Editions.{Meaning}
 use Rattle.shelf.specs.Records.{Whole}
 use Rattle.trailer.specs.declared.layout.Trailer.{Trailer}
 use Rattle.trailer.specs.Trailers.{trailer_of}
 use Rattle.manual.specs.declared.faults.FileFault.{FileFault}
-use Rattle.manual.specs.Slots.{whole, slots}
+use Rattle.manual.specs.Slots.{slots}
 use Rattle.manual.specs.Judging.{check_of}
 use Rattle.manual.specs.Laws.{judging}
 use Rattle.manual.specs.Manual.{Line, records, Follows}
@@ -24,10 +23,10 @@ use Rattle.filing.specs.declared.standing.Standing.TheVariants as standing
 use Rattle.filing.specs.Entries.{deposits_from, no_deposits, totals_of, reads}
 use Rattle.filing.specs.Volumes.{Records, totals_or, trailer_behind, entries_of}
 use Rattle.filing.specs.Laws.{Good, Found, taken}
-use Rattle.filing.specs.Taking.{start_of, marked, first_same, by_file, unless_same, admitted}
+use Rattle.filing.specs.Taking.{start_of, marked, first_same, unless_same, admitted}
 use Rattle.filing.proofs.Fitting.{fits, file_reads, front-whole}
 use Rattle.volume.specs.declared.tokens.OpenVolume.{OpenVolume}
-use Rattle.volume.specs.Tokens.{open_says, found_on, OwnOpen}
+use Rattle.volume.specs.Tokens.{open_says, OwnOpen}
 use Rattle.volume.specs.Taking.{take_answer}
 use Rattle.volume.proofs.Opened.{laws, last-is-count}
 

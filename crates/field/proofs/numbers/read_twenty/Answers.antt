@@ -1,4 +1,4 @@
-use Rattle.std.proofs.Common.{arith, rules}
+use Rattle.std.proofs.Common.{rules}
 use Rattle.field.proofs.Halves.{halves}
 use Rattle.field.proofs.numbers.read_twenty.Goals as goal
 

@@ -1,4 +1,4 @@
-use Rattle.std.proofs.Common.{length, take, arith, rules}
+use Rattle.std.proofs.Common.{length, take, rules}
 use Rattle.file.specs.Judges.{mode_of}
 use Rattle.std.proofs.lemmas.Bool.{not-false}
 use Rattle.file.proofs.Entering.{finds-room, no_room}

@@ -1,10 +1,8 @@
-use Rattle.std.proofs.Common.{◌≡◌, ◌^◌, ◌<◌, [], ◌∷◌, ◌++◌, length, sym, refl, ap, ◌∙◌, arith}
+use Rattle.std.proofs.Common.{◌≡◌, ◌^◌, ◌<◌, [], ◌∷◌, ◌++◌, length, refl, ap, ◌∙◌, arith}
 use Rattle.shelf.proofs.Calls.{added_is}
 use Rattle.trailer.specs.Trailers.{closing_of}
 use Rattle.filing.specs.Entries.{reads}
-use Rattle.filing.specs.Volumes.{opening, last_trailer}
 use Rattle.filing.specs.Laws.{closed}
-use Rattle.filing.specs.declared.standing.Standing.TheVariants.{Open}
 use Rattle.volume.specs.Tokens.{found_on, open_says}
 use Rattle.volume.proofs.Opened.{laws, last-is-count}
 use Rattle.volume.proofs.closing.close.Goals as goal

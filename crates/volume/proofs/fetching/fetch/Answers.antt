@@ -1,6 +1,5 @@
-use Rattle.std.proofs.Common.{◌≡◌, true, false, length, Ok, sym, ap, ◌∙◌}
+use Rattle.std.proofs.Common.{◌≡◌, true, length, Ok, sym, ap, ◌∙◌}
 use Rattle.filing.specs.Volumes.{entries_of}
-use Rattle.volume.specs.Tokens.{found_on}
 use Rattle.volume.specs.Taking.{numbered_in, fetch_answer, fetch_bytes}
 use Rattle.volume.proofs.Fetched.{many, no_entry, no_record, record_found}
 use Rattle.volume.proofs.fetching.fetch.Goals as goal

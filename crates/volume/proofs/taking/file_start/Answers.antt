@@ -1,4 +1,4 @@
-use Rattle.std.proofs.Common.{◌≡◌, drop, sym, refl, ap, ◌∙◌}
+use Rattle.std.proofs.Common.{drop, sym, refl, ap, ◌∙◌}
 use Rattle.record.specs.Lines.{width}
 use Rattle.filing.specs.Taking.{start_in, start_of}
 use Rattle.entries.proofs.FileLines.{front_line, front-none}

@@ -1,10 +1,8 @@
-use Rattle.std.proofs.Common.{◌≡◌, ◌+◌, ◌<◌, ◌≤◌, [], ◌∷◌, ◌++◌, length, Ok, Err, sym, refl, ap, ◌∙◌, arith, length-append}
+use Rattle.std.proofs.Common.{◌≡◌, ◌+◌, [], ◌∷◌, ◌++◌, length, Ok, Err, sym, refl, ap, ◌∙◌, arith, length-append}
 use Rattle.std.proofs.lemmas.Result.{err_from_is_err_and}
 use Rattle.manual.specs.Accepting.{front}
 use Rattle.manual.specs.Slots.{slots}
 use Rattle.filing.specs.declared.standing.Standing.TheVariants.{Open}
-use Rattle.filing.specs.Entries.{reads}
-use Rattle.filing.specs.Laws.{taken}
 use Rattle.filing.specs.Taking.{admitted}
 use Rattle.filing.specs.Volumes.{entries_of}
 use Rattle.volume.specs.Tokens.{found_on}
