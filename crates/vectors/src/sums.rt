@@ -32,7 +32,7 @@ impl Key for Noted {
 // Enters all of them into an empty table. Answers how many rows are then in use, or None if one was refused.
 fn enter_all<K: Key>(rows: &mut [Row<K>], entries: &[Row<K>]) -> Option<usize>
     ensures within { IfSome result (λ n. n ≤ length rows.new) }
-    ensures held { in_use rows.new result ≡ run same (length rows.old) [] entries.now }
+    ensures held { in_use rows.new result ≡ run K.same (length rows.old) [] entries.now }
 {
     let mut used = 0;
     for e in entries {
