@@ -1,6 +1,6 @@
 -- Entries that can be read: what they come to fits a trailer's digits, and a file that is accepted is one.
 use Rattle.std.proofs.Common.{◌≡◌, ℕ, suc, ◌+◌, ◌*◌, ◌<◌, ◌≤◌, Bool, true, false, cond, ◌&&◌, eqb, leb, ◌⊎◌, List, [], ◌∷◌, map, length, Ok, Err, Result, sym, refl, ap, ◌∙◌, subst, inl, inr, ⊎_elim, arith}
-use Rattle.std.specs.List.{between, AllByRecursion as All}
+use Rattle.std.specs.List.{between, AllByRecursion}
 use Rattle.std.proofs.lemmas.Bool.{false≢true, eqb-true, leb-true, and_parts, or_cases, cond-true}
 use Rattle.field.specs.declared.money.Currency.{Currency}
 use Rattle.field.specs.declared.money.Currency.TheVariants.{Sek, Eur}
@@ -62,7 +62,7 @@ record Held (n : ℕ) (s : State) (x : Deposits) : Type 0 where
   paid : both x + live s.place s.section.plus ≤ n * 9999999999999
 
 -- the codes of what stands in a section behind its opening record, deposit included, are from 15 to 29
-out : (c : ℕ) (cs : List ℕ) → All (λ x. (x < 15) ⊎ (29 < x)) cs → 15 ≤ c → c ≤ 29 → among c cs ≡ true → ⊥
+out : (c : ℕ) (cs : List ℕ) → AllByRecursion (λ x. (x < 15) ⊎ (29 < x)) cs → 15 ≤ c → c ≤ 29 → among c cs ≡ true → ⊥
 out c [] a lo hi h = false≢true h
 out c (x ∷ xs) a lo hi h = ⊎_elim (λ e. ⊎_elim (λ l. omega (arith, eqb-true c x e)) (λ l. omega (arith, eqb-true c x e)) a.0) (λ t. out c xs a.1 lo hi t) (or_cases (eqb c x) (among c xs) h)
 

@@ -1,6 +1,6 @@
 -- Checking is right by the manual: the theorem of specs/Accepting.
 use Rattle.std.proofs.Common.{◌≡◌, ℕ, ◌+◌, ◌≤◌, eqb, ◌⊎◌, List, [], ◌∷◌, map, length, Some, None, Ok, Err, Option, Result, sym, refl, ap, ◌∙◌, subst, inl, inr, arith}
-use Rattle.std.specs.List.{AllByRecursion as All}
+use Rattle.std.specs.List.{AllByRecursion}
 use Rattle.std.proofs.lemmas.List.{length-map}
 use Rattle.std.proofs.lemmas.Bool.{false≢true}
 use Rattle.field.specs.Chains.{and_then}
@@ -35,7 +35,7 @@ use Rattle.manual.proofs.TooShort.{seven}
 
 -- A file has few records and no amount too large, and so has each of its sections.
 
-along_modest : (m : Meaning) (o : Option Level) (rs : List (List ℕ)) (ls : List Role) → Along m o rs ls → All Modest ls × (length ls ≤ length rs)
+along_modest : (m : Meaning) (o : Option Level) (rs : List (List ℕ)) (ls : List Role) → Along m o rs ls → AllByRecursion Modest ls × (length ls ≤ length rs)
 along_modest m _ _ _ (none o) = (tt, omega arith)
 along_modest m _ _ _ (core o c k f r rs ls e g u q w a) =
     let n = along_modest m _ rs ls a in
@@ -45,34 +45,34 @@ along_modest m _ _ _ (unknown o c r rs ls e g u w a) = let n = along_modest m _ 
 
 -- the roles behind some front have no amount too large, and are so many fewer
 record Left (front : ℕ) (all rest : List Role) : Type 0 where
-  modest : All Modest rest
+  modest : AllByRecursion Modest rest
   fewer : front + length rest ≤ length all
 
-left_parts : (ps : List Part) (k : List Role) → All Modest (parts_then ps k) → Left 0 (parts_then ps k) k
+left_parts : (ps : List Part) (k : List Role) → AllByRecursion Modest (parts_then ps k) → Left 0 (parts_then ps k) k
 left_parts [] k h = record { modest = h; fewer = omega arith }
 left_parts (p ∷ ps) k h = let n = left_parts ps k h.1 in record { modest = n.modest; fewer = omega (arith, n.fewer) }
 
-left_items : (is : List Item) (k : List Role) → All Modest (items_roles is k) → All (λ (i : Item). i.transfer.fields.amount ≤ 9999999999999) is × Left (length is) (items_roles is k) k
+left_items : (is : List Item) (k : List Role) → AllByRecursion Modest (items_roles is k) → AllByRecursion (λ (i : Item). i.transfer.fields.amount ≤ 9999999999999) is × Left (length is) (items_roles is k) k
 left_items [] k h = (tt, record { modest = h; fewer = omega arith })
 left_items (i ∷ is) k h =
     let p = left_parts (written i) (items_roles is k) h.1 in
     let n = left_items is k p.modest in
     ((h.0, n.0), record { modest = n.1.modest; fewer = omega (arith, n.1.fewer, p.fewer) })
 
-tame_sections : (ss : List Section) (k : List Role) → All Modest (sections_roles ss k) → length (sections_roles ss k) ≤ 50000 → All (λ (s : Section). Tame s.items) ss
+tame_sections : (ss : List Section) (k : List Role) → AllByRecursion Modest (sections_roles ss k) → length (sections_roles ss k) ≤ 50000 → AllByRecursion (λ (s : Section). Tame s.items) ss
 tame_sections [] k h few = tt
 tame_sections (s ∷ ss) k h few =
     let n = left_items s.items (deposit s.deposit ∷ sections_roles ss k) h.1 in
     (record { few = omega (arith, few, n.1.fewer); small = n.0 }, tame_sections ss k n.1.modest.1 (omega (arith, few, n.1.fewer)))
 
-all_stand : (cap : ℕ) (ss : List Section) → All (λ (s : Section). Tame s.items) ss → All (Section-runs cap) ss → All SectionStands ss × All (Roomy cap) ss
+all_stand : (cap : ℕ) (ss : List Section) → AllByRecursion (λ (s : Section). Tame s.items) ss → AllByRecursion (Section-runs cap) ss → AllByRecursion SectionStands ss × AllByRecursion (Roomy cap) ss
 all_stand cap [] t h = (tt, tt)
 all_stand cap (s ∷ ss) t h =
     let a = section_stands cap s t.0 h.0 in
     let b = all_stand cap ss t.1 h.1 in
     ((a.0, b.0), (a.1, b.1))
 
-all_run : (cap : ℕ) (ss : List Section) → All (λ (s : Section). Tame s.items) ss → All SectionStands ss → All (Roomy cap) ss → All (Section-runs cap) ss
+all_run : (cap : ℕ) (ss : List Section) → AllByRecursion (λ (s : Section). Tame s.items) ss → AllByRecursion SectionStands ss → AllByRecursion (Roomy cap) ss → AllByRecursion (Section-runs cap) ss
 all_run cap [] t h r = tt
 all_run cap (s ∷ ss) t h r = (section_runs cap s t.0 h.0 r.0, all_run cap ss t.1 h.1 r.1)
 
@@ -133,7 +133,7 @@ same_map f one (x ∷ xs) (y ∷ ys) h =
 
 -- Accepted files have a reading.
 
-accepted : (cap : ℕ) (m : Meaning) (bs : List ℕ) (e : End) → check_of (judging cap) m bs ≡ Ok e → (r : Reading) × Follows m bs r × All (Roomy cap) r.sections × (e ≡ r.end.fields)
+accepted : (cap : ℕ) (m : Meaning) (bs : List ℕ) (e : End) → check_of (judging cap) m bs ≡ Ok e → (r : Reading) × Follows m bs r × AllByRecursion (Roomy cap) r.sections × (e ≡ r.end.fields)
 accepted cap m bs e h =
     let a = judge_ok cap m (slots bs) 0 begin e (omega arith) bounded_begin h in
     let w : Whole cap begin.counts a.roles = sound cap a.roles begin a.runs in
@@ -170,7 +170,7 @@ accepted cap m bs e h =
 its_slots : (m : Meaning) (bs : List ℕ) (r : Reading) → (f : Follows m bs r) → slots bs ≡ map whole (records f.lines)
 its_slots m bs r f = ap slots f.whole ∙ slots-lines f.lines
 
-accepts : (cap : ℕ) (m : Meaning) (bs : List ℕ) (r : Reading) → Follows m bs r → All (Roomy cap) r.sections → check_of (judging cap) m bs ≡ Ok r.end.fields
+accepts : (cap : ℕ) (m : Meaning) (bs : List ℕ) (r : Reading) → Follows m bs r → AllByRecursion (Roomy cap) r.sections → check_of (judging cap) m bs ≡ Ok r.end.fields
 accepts cap m bs r f roomy =
     let rs : List (List ℕ) = records f.lines in
     let riders : Riders m None rs = λ before behind x c q code k. let h = f.riders before behind x c q code k in (level-none (last_kind before) ∙ h.level, h.formed) in
@@ -201,7 +201,7 @@ one_reading m bs r q f g =
 abbrev needed : Section → ℕ
 needed s = distinct eqb (map (λ (i : Item). i.transfer.fields.payer) s.items)
 
-all_roomy : (ss : List Section) (rows : ℕ) → total needed ss ≤ rows → All (Roomy rows) ss
+all_roomy : (ss : List Section) (rows : ℕ) → total needed ss ≤ rows → AllByRecursion (Roomy rows) ss
 all_roomy [] rows h = tt
 all_roomy (s ∷ ss) rows h = (omega (arith, h), all_roomy ss rows (omega (arith, h)))
 

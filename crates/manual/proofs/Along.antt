@@ -1,6 +1,6 @@
 -- Records one after another, with their roles: every code is two digits, every layout is kept, every rider is in its place.
 use Rattle.std.proofs.Common.{◌≡◌, ℕ, true, List, [], ◌∷◌, ◌++◌, map, length, is_some, Some, None, Ok, Err, Option, Result, sym, refl, ap, ◌∙◌, subst, arith}
-use Rattle.std.specs.List.{between, AllByRecursion as All}
+use Rattle.std.specs.List.{between, AllByRecursion}
 use Rattle.std.proofs.lemmas.Bool.{false≢true}
 use Rattle.field.specs.Chains.{then}
 use Rattle.record.specs.declared.kinds.Kind.{Kind}
@@ -39,7 +39,7 @@ pub data Along (m : Meaning) : Option Level → List (List ℕ) → List Role �
       → Along m o rs ls → Along m o (r ∷ rs) ls
 
 abbrev pub Coded : List (List ℕ) → Type 0
-Coded rs = All (λ r. is_some (code_in r) ≡ true) rs
+Coded rs = AllByRecursion (λ r. is_some (code_in r) ≡ true) rs
 
 -- the level of a place, by the last core record if there is one
 abbrev pub level_from : Option Level → Option Kind → Option Level

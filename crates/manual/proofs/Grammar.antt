@@ -1,6 +1,6 @@
 -- The machine passes over core records exactly where they are those of a reading, in order.
 use Rattle.std.proofs.Common.{◌≡◌, ℕ, ◌+◌, ◌<◌, Bool, true, false, ◌&&◌, eqb, ltb, List, [], ◌∷◌, length, sym, refl, ap, ◌∙◌, subst, arith}
-use Rattle.std.specs.List.{AllByRecursion as All}
+use Rattle.std.specs.List.{AllByRecursion}
 use Rattle.std.proofs.lemmas.Bool.{false≢true, eqb-true, eq-eqb, and_parts, and_from}
 use Rattle.record.specs.declared.kinds.Kind.TheVariants as kind
 use Rattle.record.specs.declared.fields.Opening.{Opening}
@@ -98,7 +98,7 @@ pub record Files (cap : ℕ) (c : End) (ls : List Role) : Type 0 where
   pub sections : List Section
   pub close : Read End
   pub lies : ls ≡ sections_roles sections (end close ∷ [])
-  pub runs : All (Section-runs cap) sections
+  pub runs : AllByRecursion (Section-runs cap) sections
   pub counted : Ends c ls close.fields
 
 pub record Items (cap : ℕ) (c : End) (x : OpenSection) (ls : List Role) : Type 0 where
@@ -108,7 +108,7 @@ pub record Items (cap : ℕ) (c : End) (x : OpenSection) (ls : List Role) : Type
   close : Read End
   lies : ls ≡ items_roles items (deposit paid_in ∷ sections_roles sections (end close ∷ []))
   heads : Heads-run cap x items paid_in
-  runs : All (Section-runs cap) sections
+  runs : AllByRecursion (Section-runs cap) sections
   counted : Ends c ls close.fields
 
 pub record Parts (cap : ℕ) (c : End) (x : OpenSection) (st : Stage) (i : OpenItem) (ls : List Role) : Type 0 where
@@ -120,14 +120,14 @@ pub record Parts (cap : ℕ) (c : End) (x : OpenSection) (st : Stage) (i : OpenI
   lies : ls ≡ parts_then parts (items_roles items (deposit paid_in ∷ sections_roles sections (end close ∷ [])))
   body : Parts-run st i parts
   heads : Heads-run cap x items paid_in
-  runs : All (Section-runs cap) sections
+  runs : AllByRecursion (Section-runs cap) sections
   counted : Ends c ls close.fields
 
 pub record Whole (cap : ℕ) (c : End) (ls : List Role) : Type 0 where
   pub reading : Reading
   pub lies : ls ≡ roles reading
   pub some : 0 < length reading.sections
-  pub runs : All (Section-runs cap) reading.sections
+  pub runs : AllByRecursion (Section-runs cap) reading.sections
   pub counted : Ends c ls reading.end.fields
 
 abbrev pub Shape : ℕ → Place → End → OpenSection → OpenItem → List Role → Type 0
@@ -308,17 +308,17 @@ module _ (cap : ℕ) (e : Read End) where
     over_first (j ∷ js) c x i none r n =
         ((refl, (r.0, tt)), over-item j (items_roles js (deposit d ∷ rest)) c x r.1 n (λ f su g t m. over-items js f (after-item cap x j) su g t r.2 m))
 
-  over-sections : (ss : List Section) (c : End) (x : OpenSection) (i : OpenItem) → All (Section-runs cap) ss → Ends c (sections_roles ss (end e ∷ [])) e.fields → Run (judging cap) (at place.Between c x i) (sections_roles ss (end e ∷ []))
+  over-sections : (ss : List Section) (c : End) (x : OpenSection) (i : OpenItem) → AllByRecursion (Section-runs cap) ss → Ends c (sections_roles ss (end e ∷ [])) e.fields → Run (judging cap) (at place.Between c x i) (sections_roles ss (end e ∷ []))
   over-sections [] c x i r n = ((refl, (now_ends c e.fields e n, tt)), refl)
   over-sections (s ∷ ss) c x i r n =
       let k : List Role = sections_roles ss (end e ∷ []) in
       let l : Role = opening s.opening in
       ((refl, tt), over_first s.deposit k (λ f y g m. over-sections ss f y g r.1 m) s.items (counts_behind c l) (opened s.opening.fields.currency) i refl r.0 (ends_on c l (items_roles s.items (deposit s.deposit ∷ k)) e.fields n))
 
-  over-begun : (ss : List Section) (c : End) (x : OpenSection) (i : OpenItem) → 0 < length ss → All (Section-runs cap) ss → Ends c (sections_roles ss (end e ∷ [])) e.fields → Run (judging cap) (at place.Begun c x i) (sections_roles ss (end e ∷ []))
+  over-begun : (ss : List Section) (c : End) (x : OpenSection) (i : OpenItem) → 0 < length ss → AllByRecursion (Section-runs cap) ss → Ends c (sections_roles ss (end e ∷ [])) e.fields → Run (judging cap) (at place.Begun c x i) (sections_roles ss (end e ∷ []))
   over-begun [] c x i some r n = absurd (omega arith)
   over-begun (s ∷ ss) c x i some r n = ((refl, tt), (over-sections (s ∷ ss) c x i r n).1)
 
-pub complete : (cap : ℕ) (r : Reading) (c : End) (x : OpenSection) (i : OpenItem) → 0 < length r.sections → All (Section-runs cap) r.sections → Ends c (roles r) r.end.fields → Run (judging cap) (at place.Fresh c x i) (roles r)
+pub complete : (cap : ℕ) (r : Reading) (c : End) (x : OpenSection) (i : OpenItem) → 0 < length r.sections → AllByRecursion (Section-runs cap) r.sections → Ends c (roles r) r.end.fields → Run (judging cap) (at place.Fresh c x i) (roles r)
 complete cap r c x i some runs n =
     ((refl, tt), over-begun cap r.end r.sections (counts_behind c (start r.start)) x i some runs (ends_on c (start r.start) (sections_roles r.sections (end r.end ∷ [])) r.end.fields n))

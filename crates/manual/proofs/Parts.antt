@@ -1,6 +1,6 @@
 -- The parts of an item: what the machine passes over is what an item writes, and it passes where the item is right.
 use Rattle.std.proofs.Common.{◌≡◌, ℕ, ◌+◌, ◌≤◌, Bool, true, List, [], ◌∷◌, ◌++◌, map, length, Some, None, Option, sym, refl, ap, ◌∙◌, subst, arith}
-use Rattle.std.specs.List.{AllByRecursion as All}
+use Rattle.std.specs.List.{AllByRecursion}
 use Rattle.std.proofs.lemmas.Bool.{eqb-true, eq-eqb, ltb-true, lt-ltb, and_parts, and_from}
 use Rattle.record.specs.declared.kinds.Kind.{Kind}
 use Rattle.record.specs.declared.kinds.Kind.TheVariants as kind
@@ -163,14 +163,14 @@ module _ (i : Item) where
   abbrev Runs : List Part → Type 0
   Runs ps = Parts-run stage.Head (headed i.transfer.fields) ps
 
-  extras_stand : (xs : List Extra) (ps : List Part) → Runs (map extra_of xs ++ ps) → All (Agrees i) xs × Runs ps
+  extras_stand : (xs : List Extra) (ps : List Part) → Runs (map extra_of xs ++ ps) → AllByRecursion (Agrees i) xs × Runs ps
   extras_stand [] ps h = (tt, h)
   extras_stand (x ∷ xs) ps h =
       let a = and_parts _ _ h.1.0 in
       let n = extras_stand xs ps h.2 in
       ((record { payer = eqb-true _ _ a.0; serial = eqb-true _ _ a.1 }, n.0), n.1)
 
-  extras-run : (xs : List Extra) (ps : List Part) → All (Agrees i) xs → Runs ps → Runs (map extra_of xs ++ ps)
+  extras-run : (xs : List Extra) (ps : List Part) → AllByRecursion (Agrees i) xs → Runs ps → Runs (map extra_of xs ++ ps)
   extras-run [] ps s h = h
   extras-run (x ∷ xs) ps s h = (refl, (and_from _ _ (eq-eqb _ _ s.0.payer) (eq-eqb _ _ s.0.serial), tt), extras-run xs ps s.1 h)
 

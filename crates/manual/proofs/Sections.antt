@@ -1,6 +1,6 @@
 -- The machine passes over the items of a section and its deposit exactly where the section is right and the payer table has rows enough.
 use Rattle.std.proofs.Common.{◌≡◌, ℕ, zero, suc, ◌+◌, ◌^◌, ◌<◌, ◌≤◌, true, false, cond, ◌&&◌, eqb, ltb, leb, List, [], ◌∷◌, map, length, get_or, is_some, Some, None, Option, sym, refl, ap, ◌∙◌, subst, arith}
-use Rattle.std.specs.List.{AllByRecursion as All}
+use Rattle.std.specs.List.{AllByRecursion}
 use Rattle.std.proofs.lemmas.List.{length-map}
 use Rattle.std.proofs.lemmas.Bool.{false≢true, cond-true, eqb-true, eq-eqb, leb-true, le-leb, ltb-true, lt-ltb, and_parts, and_from, or_parts}
 use Rattle.field.specs.declared.money.Currency.{Currency}
@@ -42,7 +42,7 @@ Section-runs cap s = Heads-run cap (opened s.opening.fields.currency) s.items s.
 -- few enough items, and no amount too large: what every file has
 pub record Tame (is : List Item) : Type 0 where
   pub few : length is ≤ 50000
-  pub small : All (λ (i : Item). i.transfer.fields.amount ≤ 9999999999999) is
+  pub small : AllByRecursion (λ (i : Item). i.transfer.fields.amount ≤ 9999999999999) is
 
 -- The payer table: what entering the items leaves in it.
 
@@ -73,7 +73,7 @@ sums_of : (f : Row ℕ → ℕ) (p : ℕ) (is : List Item) → column_of eqb f (
 sums_of f p [] = refl
 sums_of f p (i ∷ is) = ap (λ n. cond (eqb i.transfer.fields.payer p) (f (entry i)) 0 + n) (sums_of f p is)
 
-within_bounds : (is : List Item) → All (λ (i : Item). i.transfer.fields.amount ≤ 9999999999999) is → All (Within 9999999999999) (entries is)
+within_bounds : (is : List Item) → AllByRecursion (λ (i : Item). i.transfer.fields.amount ≤ 9999999999999) is → AllByRecursion (Within 9999999999999) (entries is)
 within_bounds [] h = tt
 within_bounds (i ∷ is) h = (
   elim i.payment as (λ b. (cond b i.transfer.fields.amount 0 ≤ 9999999999999) × (cond b 0 i.transfer.fields.amount ≤ 9999999999999)) [
@@ -160,7 +160,7 @@ rightly x d e f g = and_from _ _ (currency-same _ _ e) (and_from _ _ (eq-eqb _ _
 -- Over the items from any state of the section.
 
 record Heads-stand (cap : ℕ) (x : OpenSection) (is : List Item) (d : Read Deposit) : Type 0 where
-  items : All ItemStands is
+  items : AllByRecursion ItemStands is
   final : List (Row ℕ)
   table : run eqb cap x.rows (entries is) ≡ Some final
   none_short : covered final ≡ true

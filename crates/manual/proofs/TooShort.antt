@@ -1,6 +1,6 @@
 -- Cause 7 comes exactly at the record where the payer table is too short: beside the judge with a table stands one with one row more.
 use Rattle.std.proofs.Common.{◌≡◌, ℕ, zero, suc, ◌+◌, ◌<◌, ◌≤◌, Bool, true, false, cond, eqb, leb, List, [], ◌∷◌, ◌++◌, length, take, is_some, Some, None, Ok, Err, Option, Result, sym, refl, ap, ◌∙◌, subst, arith}
-use Rattle.std.specs.List.{between, AllByRecursion as All}
+use Rattle.std.specs.List.{between, AllByRecursion}
 use Rattle.std.proofs.lemmas.List.{map_push}
 use Rattle.std.proofs.lemmas.Bool.{false≢true, leb-true, le-leb, cond_both}
 use Rattle.field.specs.Chains.{then}
@@ -131,7 +131,7 @@ data Turn (rows : ℕ) (ps : List ℕ) : Result State Cause → Result State Cau
   full : (t : State) → rows < distinct eqb ps → Turn rows ps (Err cause.NoPlace) (Ok t)
 
 -- tests that do not depend on the table
-plain : (rows : ℕ) (ps : List ℕ) (t : State) → Held rows t.section.rows ps → (ts : List (Bool × Cause)) → All (λ x. Other x.1) ts → Turn rows ps (first ts t) (first ts t)
+plain : (rows : ℕ) (ps : List ℕ) (t : State) → Held rows t.section.rows ps → (ts : List (Bool × Cause)) → AllByRecursion (λ x. Other x.1) ts → Turn rows ps (first ts t) (first ts t)
 plain rows ps t h [] o = on t h
 plain rows ps t h (x ∷ xs) o =
     elim x.0 as (λ b. Turn rows ps (cond b (first xs t) (Err x.1)) (cond b (first xs t) (Err x.1))) [
@@ -157,7 +157,7 @@ module _ (rows : ℕ) (s : State) (ps : List ℕ) (h : Held rows s.section.rows 
       spaced rows (ps ++ p ∷ []) t b _ _ (λ e. subst (λ l. Held rows l (ps ++ p ∷ [])) is (held_more h p a d e)) (too_many h p a d) (one-more-fits h p a d)
 
   -- a record whose tests do not depend on the table
-  calm : (c : Class) (qs : List ℕ) → Held rows (after (judging rows) s c).section.rows qs → All (λ x. Other x.1) (tests (judging rows) s c)
+  calm : (c : Class) (qs : List ℕ) → Held rows (after (judging rows) s c).section.rows qs → AllByRecursion (λ x. Other x.1) (tests (judging rows) s c)
       → Turn rows qs (step (judging rows) s c) (step (judging rows) s c)
   calm c qs h o = plain rows qs (after (judging rows) s c) h (tests (judging rows) s c) o
 
@@ -191,7 +191,7 @@ module _ (rows : ℕ) (s : State) (ps : List ℕ) (h : Held rows s.section.rows 
     class_turn _ (Seen.rider c e is l) = by_kind None _ _ is (calm (class.Rider (record { code = c; level = m.level c; formed = m.formed c r })) ps h (tt, (tt, (tt, tt))))
     class_turn _ (Seen.unknown c e is l) = by_kind None _ _ is (calm class.Unknown ps h (tt, tt))
 
--- All slots before both judges.
+-- AllByRecursion slots before both judges.
 
 -- how many distinct payers the open section has behind the first k of these slots, where ps came before them
 abbrev behind : List ℕ → List Slot → ℕ → ℕ

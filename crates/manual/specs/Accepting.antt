@@ -1,6 +1,6 @@
 -- What checking has to do with the manual: which files it accepts, how many readings they have, and when the payer table is too short.
 use Rattle.std.specs.Prelude.{◌≡◌, ℕ, suc, ◌<◌, ◌≤◌, List, [], ◌∷◌, ◌++◌, map, take, Some, None, Ok, Err, Option, Result, ◌≢◌, nat_eq}
-use Rattle.std.specs.List.{AllByRecursion as All}
+use Rattle.std.specs.List.{AllByRecursion}
 use Rattle.record.specs.declared.kinds.Kind.{Kind}
 use Rattle.record.specs.declared.fields.Core.{Core}
 use Rattle.record.specs.declared.fields.Core.TheVariants as core
@@ -72,9 +72,9 @@ pub record TooShort (rows : ℕ) (m : Meaning) (bytes : List ℕ) (n : ℕ) : Ty
 -- an answer to bytes, under an edition and with a payer table of so many rows, is what the manual says
 pub record Right (rows : ℕ) (m : Meaning) (bytes : List ℕ) (answer : Result End FileFault) : Type 0 where
   -- what is accepted has a reading that follows, for which the table has rows enough, and the counts are that reading's
-  pub accepted : (e : End) → answer ≡ Ok e → (r : Reading) × Follows m bytes r × All (Roomy rows) r.sections × (e ≡ r.end.fields)
+  pub accepted : (e : End) → answer ≡ Ok e → (r : Reading) × Follows m bytes r × AllByRecursion (Roomy rows) r.sections × (e ≡ r.end.fields)
   -- where a reading follows and the table has rows enough for it, the file is accepted with the reading's counts
-  pub accepts : (r : Reading) → Follows m bytes r → All (Roomy rows) r.sections → answer ≡ Ok r.end.fields
+  pub accepts : (r : Reading) → Follows m bytes r → AllByRecursion (Roomy rows) r.sections → answer ≡ Ok r.end.fields
   -- two readings that follow are equal
   pub one_reading : (r q : Reading) → Follows m bytes r → Follows m bytes q → r ≡ q
   -- 7 comes exactly at the record where the table is too short

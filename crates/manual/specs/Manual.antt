@@ -1,6 +1,6 @@
 -- The manual: how a file reads, and which files are right. Nothing here runs: `Follows` at the end has a field for each rule.
 use Rattle.std.specs.Prelude.{◌≡◌, ℕ, ◌+◌, ◌<◌, ◌≤◌, Bool, true, cond, List, [], ◌∷◌, ◌++◌, map, length, is_some, Some, None, Ok, Option, Result, ◌==◌}
-use Rattle.std.specs.List.{between, AllByRecursion as All}
+use Rattle.std.specs.List.{between, AllByRecursion}
 use Rattle.field.specs.Chains.{then, and_then}
 use Rattle.record.specs.declared.kinds.Kind.{Kind}
 use Rattle.record.specs.declared.kinds.Kind.TheVariants as kind
@@ -153,13 +153,13 @@ pub record Agrees (i : Item) (x : Extra) : Type 0 where
 
 pub record ItemStands (i : Item) : Type 0 where
   -- every extra reference agrees with its item
-  pub agreeing : All (Agrees i) i.extras
+  pub agreeing : AllByRecursion (Agrees i) i.extras
   -- at most 99 information records
   pub at_most_99 : length i.information ≤ 99
 
 pub record SectionStands (s : Section) : Type 0 where
   -- each item is right
-  pub each_item : All ItemStands s.items
+  pub each_item : AllByRecursion ItemStands s.items
   -- at least one of them is a payment
   pub some_payment : 0 < total one_payment s.items
   -- every payer number has payments of at least its deductions
@@ -243,7 +243,7 @@ pub record Follows (m : Meaning) (bytes : List ℕ) (r : Reading) : Type 0 where
   -- at most 50,000
   pub few : length lines ≤ 50000
   -- every code is two digits
-  pub coded : All (λ x. is_some (code_in x) ≡ true) (records lines)
+  pub coded : AllByRecursion (λ x. is_some (code_in x) ≡ true) (records lines)
   -- the first record is the start
   pub starts : first_kind (records lines) ≡ Some kind.Start
   -- the core records in order, read by their layouts, are the leaves of the tree in order
@@ -251,7 +251,7 @@ pub record Follows (m : Meaning) (bytes : List ℕ) (r : Reading) : Type 0 where
   -- at least one section
   pub some_section : 0 < length r.sections
   -- each section is right
-  pub each_section : All SectionStands r.sections
+  pub each_section : AllByRecursion SectionStands r.sections
   -- the end record has the file's counts
   pub counted : CountsStand r.sections r.end.fields
   -- each rider stands where its level says and is well formed, none behind the end; unknown records may stand anywhere

@@ -3,7 +3,7 @@ use Rattle.std.proofs.Common.{◌≡◌, ℕ, zero, suc, ◌+◌, ◌*◌, ◌^�
 use Rattle.std.proofs.lemmas.Bool.{le-leb, lt-leb, leb-true, leb-false, cond-false}
 use Rattle.std.proofs.lemmas.List.{append-nil, append_assoc, length-map, length_push}
 use Rattle.std.specs.Option.{option_map}
-use Rattle.std.specs.List.{AllByRecursion as All}
+use Rattle.std.specs.List.{AllByRecursion}
 use Rattle.sums.specs.declared.Row.{Row}
 use Rattle.sums.specs.Keys.{Lawful}
 use Rattle.sums.specs.Table.{place, capped, grown, entered, enter}
@@ -106,7 +106,7 @@ module _ {K : Type 0} (same : K → K → Bool) where
       ]
 
 -- so many entries of at most so much
-at_most : {K : Type 0} (es : List (Row K)) → All (Within 9999999999999) es → (total (λ e. e.added) es ≤ 9999999999999 * length es) × (total (λ e. e.taken) es ≤ 9999999999999 * length es)
+at_most : {K : Type 0} (es : List (Row K)) → AllByRecursion (Within 9999999999999) es → (total (λ e. e.added) es ≤ 9999999999999 * length es) × (total (λ e. e.taken) es ≤ 9999999999999 * length es)
 at_most [] h = (omega arith, omega arith)
 at_most (e ∷ es) h =
     (omega (arith, (at_most es h.1).0, h.0.0), omega (arith, (at_most es h.1).1, h.0.1))

@@ -2,7 +2,7 @@
 -- An entry is written as a row: its key, and what it adds and takes.
 use Rattle.std.specs.Prelude.{◌≡◌, ℕ, ◌+◌, ◌^◌, ◌<◌, ◌≤◌, Bool, true, false, cond, ◌||◌, List, [], ◌∷◌, map, length, take, is_some, IfSome, Some, None, Option, slice_index_or}
 use Rattle.std.specs.Option.{option_map}
-use Rattle.std.specs.List.{AllByRecursion as All}
+use Rattle.std.specs.List.{AllByRecursion}
 use Rattle.sums.specs.declared.Row.{Row}
 use Rattle.sums.specs.Table.{place, enter, over, in_use}
 
@@ -93,7 +93,7 @@ module _ {K : Type 0} (same : K → K → Bool) where
     -- the entries of one key come to no more than all entries
     pub part : (f : Row K → ℕ) (es : List (Row K)) (k : K) → column_of f es k ≤ total f es
     -- 500,000 entries of at most 9,999,999,999,999 each come to less than 2 ^ 64
-    pub fits : (es : List (Row K)) → length es ≤ 500000 → All (Within 9999999999999) es → (total (λ e. e.added) es < 2 ^ 64) × (total (λ e. e.taken) es < 2 ^ 64)
+    pub fits : (es : List (Row K)) → length es ≤ 500000 → AllByRecursion (Within 9999999999999) es → (total (λ e. e.added) es < 2 ^ 64) × (total (λ e. e.taken) es < 2 ^ 64)
 
   -- these laws, shut, so that a caller's proof opens it only where it needs a law
   unfoldable pub SumsStand : Type 0

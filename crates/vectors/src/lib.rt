@@ -12,6 +12,6 @@ mod files;
 #[cfg(test)]
 mod records;
 #[cfg(test)]
-mod shelf;
+mod shelves;
 #[cfg(test)]
-mod sums;
+mod tables;

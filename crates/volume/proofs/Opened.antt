@@ -1,6 +1,6 @@
 -- Opening is exact: the theorem of specs/Laws.
 use Rattle.std.proofs.Common.{◌≡◌, ℕ, ◌^◌, ◌<◌, ◌≤◌, true, false, List, [], ◌∷◌, length, IfOk, Ok, Err, Result, sym, refl, ap, ◌∙◌, arith, length-append}
-use Rattle.std.specs.List.{AllByRecursion as All}
+use Rattle.std.specs.List.{AllByRecursion}
 use Rattle.std.proofs.lemmas.Bool.{cond-true, cond-false}
 use Rattle.shelf.specs.Records.{Whole}
 use Rattle.trailer.proofs.TrailerLaws as trailers
@@ -45,11 +45,11 @@ own_made rs limit (Err f) e = tt
 
 -- Readable entries are good ones: what an entry comes to always fits its trailer.
 
-good : (es : List Records) → All Readable es → All-good reads es
+good : (es : List Records) → AllByRecursion Readable es → All-good reads es
 good [] h = tt
 good (e ∷ es) h = (record { totals = h.0.0; is = h.0.1; fits = fits e h.0.0 h.0.1 }, good es h.1)
 
-readable : (es : List Records) → All-good reads es → All Readable es
+readable : (es : List Records) → All-good reads es → AllByRecursion Readable es
 readable [] h = tt
 readable (e ∷ es) h = ((h.0.totals, h.0.is), readable es h.1)
 

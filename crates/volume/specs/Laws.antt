@@ -1,6 +1,6 @@
 -- What opening has to do with filing: a shelf opens exactly where it is what filing some readable entries lays down.
 use Rattle.std.specs.Prelude.{◌≡◌, ℕ, List, length, Ok, Result}
-use Rattle.std.specs.List.{AllByRecursion as All}
+use Rattle.std.specs.List.{AllByRecursion}
 use Rattle.trailer.specs.declared.layout.Totals.{Totals}
 use Rattle.filing.specs.declared.faults.VolumeFault.{VolumeFault}
 use Rattle.filing.specs.Entries.{reads}
@@ -18,7 +18,7 @@ pub record Holds (rs : Records) (limit : ℕ) (v : Volume) (es : List Records) :
   -- the records are the entries as filing lays them down, each with its trailer, and the closing record behind them where the volume is closed
   pub lies : rs ≡ volume reads (says v).standing es
   -- each entry can be read
-  pub readable : All Readable es
+  pub readable : AllByRecursion Readable es
   -- the token has their number, and the place of the last trailer
   pub many : length es ≡ (says v).entries
   pub last : (says v).last ≡ length (lay reads es)

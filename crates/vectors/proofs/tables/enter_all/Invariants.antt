@@ -1,6 +1,6 @@
 use Rattle.std.proofs.Common.{◌≡◌, ◌≤◌, [], length, take, drop}
 use Rattle.sums.specs.Laws.{run}
-use Rattle.vectors.proofs.sums.enter_all.Given as goal
+use Rattle.vectors.proofs.tables.enter_all.Given as goal
 
 abbrev pub invariant-loop-e : goal.invariant-loop-e
 invariant-loop-e g l =

@@ -1,6 +1,6 @@
 use Rattle.std.proofs.Common.{rules}
 use Rattle.vectors.specs.Alike.{length_alike}
-use Rattle.vectors.proofs.shelf.AlikeShelf.add.Goals as goal
+use Rattle.vectors.proofs.shelves.AlikeShelf.add.Goals as goal
 
 pub returns : goal.returns
 returns c =

@@ -2,7 +2,7 @@ use Rattle.std.proofs.Common.{◌-◌, ◌<◌, min, replicate, arith, rules}
 use Rattle.std.proofs.lemmas.List.{get_or-replicate}
 use Rattle.shelf.specs.Records.{highest}
 use Rattle.vectors.specs.Alike.{length_alike}
-use Rattle.vectors.proofs.shelf.AlikeShelf.copy.Goals as goal
+use Rattle.vectors.proofs.shelves.AlikeShelf.copy.Goals as goal
 
 pub returns : goal.returns
 returns c =

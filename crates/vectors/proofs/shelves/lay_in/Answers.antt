@@ -2,7 +2,7 @@ use Rattle.std.proofs.Common.{◌≡◌, length, ap, ◌∙◌, arith, rules}
 use Rattle.shelf.specs.Records.{held, places, inside_held}
 use Rattle.shelf.specs.Runs.{lay_answer, laid}
 use Rattle.shelf.proofs.Eighties.{held_recount}
-use Rattle.vectors.proofs.shelf.lay_in.Goals as goal
+use Rattle.vectors.proofs.shelves.lay_in.Goals as goal
 
 pub returns : goal.returns
 returns c =

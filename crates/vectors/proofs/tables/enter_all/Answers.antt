@@ -1,6 +1,6 @@
 use Rattle.std.proofs.Common.{rules}
 use Rattle.vectors.proofs.Runs.{run_on, run_stops, run_end}
-use Rattle.vectors.proofs.sums.enter_all.Goals as goal
+use Rattle.vectors.proofs.tables.enter_all.Goals as goal
 
 pub returns-in-None : goal.returns-in-None
 returns-in-None g c = let a = c.in-None.ensures in search (rules, run_stops)
