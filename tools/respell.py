@@ -17,8 +17,6 @@ import sys
 WORD = r"[^\s(){}.;,@\"«»]+"
 TOKEN = re.compile(WORD)
 DECLARED = re.compile(r"^\s*(?:(?:abbrev|unfoldable|data|record|ruleset) )*(?:pub )?(?:(?:data|record) )?([^\s({]+)(?: \{[^}]*\})* : (.*)$")
-USE = re.compile(r"\buse (Rattle\.\w+|[\w.]+?)\.?([\w.'+-]*)\.?\{([^}]*)\}")
-ALIAS = re.compile(r"(?:ghost use|^\s*(?:pub )?use)\b[^;\n]*?\bas (" + WORD + ")", re.M)
 MADE = re.compile(r"^(in[-_]|if-|loop|returns|else-|then-|overflow|bounds|slice_bounds|nonzero|invariant|decreases|prove)")
 
 
@@ -85,24 +83,16 @@ def table():
 
 
 def turned(text, rows, made):
-    """The text of one file, respelled outside strings and prose."""
-
-    def word(m):
-        name = m[0]
-        if made and MADE.match(name) and text[m.start() - 1 : m.start()] == ".":
-            return name
-        return rows.get(name, name)
-
+    """The text of one file, respelled outside strings and prose. In an answer, a name that Rattle made stays behind a dot."""
     out = []
     for line in text.split("\n"):
-        code, mark, prose = line, "", ""
+        code, prose = line, ""
         for sign in ("--", "//"):
             at = re.search(r"(?:^|\s)" + sign, line)
             if at and line[: at.start()].count('"') % 2 == 0:
                 code, prose = line[: at.start()], line[at.start() :]
                 break
         pieces = re.split(r'("(?:[^"\\]|\\.)*")', code)
-        offset = 0
         done = []
         for k, piece in enumerate(pieces):
             if k % 2:

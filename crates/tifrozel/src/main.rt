@@ -18,6 +18,7 @@ use listing::{Listing, list};
 use manual::{Cause, FileFault, refusal_of_file};
 use record::{Bare, House, RecordFault};
 use std::alloc::{AllocError, Global};
+use std::process::ExitCode;
 use std::{env, fs};
 use words::{EditionName, edition_asked, is_comment, options_asked, words_of};
 
@@ -133,14 +134,24 @@ fn serve(rt: &HostRuntime) -> anyhow::Result<()> {
     }
 }
 
-fn main(rt: HostRuntime) -> anyhow::Result<()> {
+// The command that stands in the arguments or, without any, the commands of standard input.
+fn asked(rt: &HostRuntime) -> anyhow::Result<()> {
     let mut args = Vec::new(rt.alloc());
-    for word in env::args(&rt)?.skip(1) {
+    for word in env::args(rt)?.skip(1) {
         args.push(word)?;
     }
     if args.is_empty() {
-        serve(&rt)
+        serve(rt)
     } else {
-        run(&rt, &args)
+        run(rt, &args)
+    }
+}
+
+// Status 1 where a command was refused or could not run. What is to be said of it has been printed by then.
+fn main(rt: HostRuntime) -> ExitCode {
+    if asked(&rt).is_ok() {
+        ExitCode::SUCCESS
+    } else {
+        ExitCode::FAILURE
     }
 }
