@@ -191,7 +191,7 @@ module _ (rows : ℕ) (s : State) (ps : List ℕ) (h : Held rows s.section.rows 
     class_turn _ (Seen.rider c e is l) = by_kind None _ _ is (calm (class.Rider (record { code = c; level = m.level c; formed = m.formed c r })) ps h (tt, (tt, (tt, tt))))
     class_turn _ (Seen.unknown c e is l) = by_kind None _ _ is (calm class.Unknown ps h (tt, tt))
 
--- AllByRecursion slots before both judges.
+-- All slots before both judges.
 
 -- how many distinct payers the open section has behind the first k of these slots, where ps came before them
 abbrev behind : List ℕ → List Slot → ℕ → ℕ

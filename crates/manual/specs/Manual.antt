@@ -24,6 +24,7 @@ use Rattle.record.specs.Laws.{kind_at}
 
 -- LINES. A file is a run of whole records, each 80 text bytes and a line end.
 
+-- a whole record with its line end
 pub record Line : Type 0 where
   pub bytes : List ℕ
   pub ending : LineEnd
