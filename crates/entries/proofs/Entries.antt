@@ -1,85 +1,67 @@
 -- Reading an entry record by record.
-use Rattle.std.proofs.Common.{◌≡◌, ℕ, zero, suc, ◌+◌, ◌-◌, ◌<◌, ◌≤◌, true, false, List, [], ◌∷◌, length, get_or, take, drop, Ok, Err, Result, sym, refl, ap, ◌∙◌, add-one, arith}
+use Rattle.std.proofs.Common.{◌≡◌, ℕ, suc, ◌+◌, ◌-◌, ◌<◌, ◌≤◌, List, [], ◌∷◌, length, get_or, take, drop, Ok, Err, Result, sym, ap, ◌∙◌, add-one, arith}
 use Rattle.std.specs.List.{between}
-use Rattle.std.proofs.lemmas.List.Edits.{get_or-between}
-use Rattle.std.proofs.lemmas.List.{get_or_default, at_drop_more, at_drop_all}
-use Rattle.std.proofs.lemmas.Bool.{and_from, cond-true, cond-false, lt-ltb, le-leb, lt-leb}
+use Rattle.std.proofs.lemmas.List.{at_drop_more}
 use Rattle.field.specs.Chains.{then}
 use Rattle.trailer.specs.declared.layout.Totals.{Totals}
-use Rattle.shelf.specs.Answers.{copied, within}
 use Rattle.record.specs.declared.fields.End.{End}
-use Rattle.record.specs.Classes.{class_of}
 use Rattle.record.specs.Editions.{bare}
-use Rattle.manual.specs.declared.faults.Cause.{Cause}
-use Rattle.manual.specs.declared.faults.Cause.TheVariants as cause
 use Rattle.manual.specs.declared.faults.FileFault.{FileFault}
-use Rattle.manual.specs.Judging.{State, begin, ended, at_record, then_on, slot_step, judge}
+use Rattle.manual.specs.Judging.{State, begin, judge}
 use Rattle.manual.specs.Laws.{not_judging}
-use Rattle.sums.specs.declared.Row.{Row}
+use Rattle.file.specs.Judges.{read_step, finished}
+use Rattle.file.proofs.Steps.{judge_next}
 use Rattle.filing.specs.declared.deposits.Deposits.{Deposits}
-use Rattle.filing.specs.Entries.{slot_of, entry_slots, deposits_behind, deposits_from, no_deposits, totals_of, reads}
+use Rattle.filing.specs.Entries.{slot_of, entry_slots, deposits_from, no_deposits, totals_of, reads}
 
--- the record that a shelf copies
-pub copied_at : (rs : List (List ℕ)) (n : ℕ) (d : List ℕ) → 0 < n → n ≤ length rs → copied rs n d ≡ get_or rs (n - 1) []
-copied_at rs n d low high =
-    cond-true (within n (length rs)) (get_or rs (n - 1) d) d (and_from _ _ (lt-ltb 0 n low) (le-leb n (length rs) high)) ∙ get_or_default rs (n - 1) d [] (omega arith)
+-- An entry es of which what is left, from record n on, at this state gives the whole answer.
+module _ (es left : List (List ℕ)) (n : ℕ) (s : State) (leads : judge not_judging bare n s (entry_slots left) ≡ judge not_judging bare 1 begin (entry_slots es)) where
+  -- what that comes to with the deposits
+  abbrev answered : Result End FileFault → Result Totals FileFault
+  answered o = then o (λ e. Ok (totals_of e (deposits_from no_deposits es)))
 
--- a table of no rows has none in use
-pub no_rows : (k : ℕ) (rows : List (Row ℕ)) → length rows ≡ 0 → take k rows ≡ []
-no_rows zero rows h = refl
-no_rows (suc k) [] h = refl
-no_rows (suc k) (r ∷ rs) h = absurd (omega arith)
+  -- the next record, and those behind it
+  module _ (r : List ℕ) (later : List (List ℕ)) (next : left ≡ r ∷ later) where
+    here : (o : Result State FileFault) → o ≡ read_step not_judging bare n s (slot_of r) → then o (λ t. judge not_judging bare (suc n) t (entry_slots later)) ≡ judge not_judging bare 1 begin (entry_slots es)
+    here o e =
+        ap (λ x. then x (λ t. judge not_judging bare (suc n) t (entry_slots later))) e
+        ∙ sym (judge_next not_judging bare n s (slot_of r) (entry_slots later)) ∙ ap (λ l. judge not_judging bare n s (entry_slots l)) (sym next) ∙ leads
 
--- An entry es of which i records have been read, at a state from which what is left gives the whole answer.
-module _ (es : List (List ℕ)) (i : ℕ) (s : State) (leads : judge not_judging bare (i + 1) s (entry_slots (drop i es)) ≡ judge not_judging bare 1 begin (entry_slots es)) where
-  whole-answer : (r : Result End FileFault) → judge not_judging bare (i + 1) s (entry_slots (drop i es)) ≡ r → judge not_judging bare 1 begin (entry_slots es) ≡ r
-  whole-answer r e = sym leads ∙ e
-
-  module _ (more : i < length es) where
-    -- the next record
-    opened_up : judge not_judging bare (i + 1) s (entry_slots (drop i es)) ≡ judge not_judging bare (i + 1) s (slot_of (get_or es i []) ∷ entry_slots (drop (i + 1) es))
-    opened_up = at_drop_more (λ l. judge not_judging bare (i + 1) s (entry_slots l)) es i [] more
-
-    pub read-many : 50000 < i + 1 → ◌≡◌ {A = Result Totals FileFault} (at_record (i + 1) cause.TooMany) (reads es)
+    pub read-stop : (f : FileFault) → Err f ≡ read_step not_judging bare n s (slot_of r) → ◌≡◌ {A = Result Totals FileFault} (Err f) (reads es)
     unfolding reads
-    read-many many = ap (λ o. then o (λ e. Ok (totals_of e (deposits_from no_deposits es)))) (sym (whole-answer _ (opened_up ∙ cond-false _ _ _ (lt-leb (i + 1) 50000 many))))
+    read-stop f e = ap answered (here (Err f) e)
 
-    module _ (few : i + 1 ≤ 50000) where
-      stepped : judge not_judging bare (i + 1) s (entry_slots (drop i es)) ≡ then_on (slot_step not_judging bare s (slot_of (get_or es i []))) (i + 1) (λ t. judge not_judging bare (suc (i + 1)) t (entry_slots (drop (i + 1) es)))
-      stepped = opened_up ∙ cond-true _ _ _ (le-leb (i + 1) 50000 few)
+    pub read_on : (t : State) → Ok t ≡ read_step not_judging bare n s (slot_of r) → judge not_judging bare (n + 1) t (entry_slots later) ≡ judge not_judging bare 1 begin (entry_slots es)
+    read_on t e = ap (λ k. judge not_judging bare k t (entry_slots later)) (add-one n) ∙ here (Ok t) e
 
-      pub read-stop : (c : Cause) → Err c ≡ slot_step not_judging bare s (slot_of (get_or es i [])) → ◌≡◌ {A = Result Totals FileFault} (at_record (i + 1) c) (reads es)
-      unfolding reads
-      read-stop c e =
-          ap (λ o. then o (λ e. Ok (totals_of e (deposits_from no_deposits es))))
-          (sym (whole-answer _ (stepped ∙ ap (λ o. then_on o (i + 1) (λ t. judge not_judging bare (suc (i + 1)) t (entry_slots (drop (i + 1) es)))) (sym e))))
+  module _ (none : left ≡ []) where
+    ended_up : (o : Result End FileFault) → o ≡ finished n s → o ≡ judge not_judging bare 1 begin (entry_slots es)
+    ended_up o e = e ∙ ap (λ l. judge not_judging bare n s (entry_slots l)) (sym none) ∙ leads
 
-      pub read_on : (t : State) → Ok t ≡ slot_step not_judging bare s (slot_of (get_or es i [])) → judge not_judging bare (i + 1 + 1) t (entry_slots (drop (i + 1) es)) ≡ judge not_judging bare 1 begin (entry_slots es)
-      read_on t e =
-          ap (λ n. judge not_judging bare n t (entry_slots (drop (i + 1) es))) (add-one (i + 1))
-          ∙ sym (whole-answer _ (stepped ∙ ap (λ o. then_on o (i + 1) (λ t. judge not_judging bare (suc (i + 1)) t (entry_slots (drop (i + 1) es)))) (sym e)))
-
-  module _ (all : length es ≤ i) (x : Deposits) (sums : deposits_from x (drop i es) ≡ deposits_from no_deposits es) where
-    ended_up : judge not_judging bare (i + 1) s (entry_slots (drop i es)) ≡ judge not_judging bare (i + 1) s []
-    ended_up = at_drop_all (λ l. judge not_judging bare (i + 1) s (entry_slots l)) es i all
-
-    pub read_end : ended s.place ≡ true → Ok (totals_of s.counts x) ≡ reads es
+    pub read_end : (e : End) (x : Deposits) → deposits_from x left ≡ deposits_from no_deposits es → Ok e ≡ finished n s → Ok (totals_of e x) ≡ reads es
     unfolding reads
-    read_end e =
-        let is : x ≡ deposits_from no_deposits es = sym (at_drop_all (deposits_from x) es i all) ∙ sums in
-        ap (λ y. Ok (totals_of s.counts y)) is
-        ∙ ap (λ o. then o (λ e. Ok (totals_of e (deposits_from no_deposits es)))) (sym (whole-answer _ (ended_up ∙ cond-true _ _ _ e)))
+    read_end e x sums h =
+        let is : x ≡ deposits_from no_deposits es = ap (deposits_from x) (sym none) ∙ sums in
+        ap (λ y. Ok (totals_of e y)) is ∙ ap answered (ended_up (Ok e) h)
 
-    pub read_unended : ended s.place ≡ false → ◌≡◌ {A = Result Totals FileFault} (at_record (i + 1) cause.Unfinished) (reads es)
+    pub read_unended : (f : FileFault) → Err f ≡ finished n s → ◌≡◌ {A = Result Totals FileFault} (Err f) (reads es)
     unfolding reads
-    read_unended e = ap (λ o. then o (λ e. Ok (totals_of e (deposits_from no_deposits es)))) (sym (whole-answer _ (ended_up ∙ cond-false _ _ _ e)))
+    read_unended f h = ap answered (ended_up (Err f) h)
 
--- the sums, one record further
-pub sums_on : (es : List (List ℕ)) (i : ℕ) (x y : Deposits) → i < length es → y ≡ deposits_behind x (class_of bare (get_or es i [])) → deposits_from x (drop i es) ≡ deposits_from no_deposits es → deposits_from y (drop (i + 1) es) ≡ deposits_from no_deposits es
-sums_on es i x y more e sums = ap (λ z. deposits_from z (drop (i + 1) es)) e ∙ sym (at_drop_more (deposits_from x) es i [] more) ∙ sums
+-- Record n of the entry of so many records behind the first `before`, and those behind it.
+module _ (rs : List (List ℕ)) (before count : ℕ) where
+  -- the entry from record n on
+  abbrev pub left_from : ℕ → List (List ℕ)
+  left_from n = between (before + n - 1) (before + count) rs
 
--- record i of an entry on the shelf
-pub item_at : (rs : List (List ℕ)) (before count i : ℕ) → i < count → get_or rs (before + (i + 1) - 1) [] ≡ get_or (between before (before + count) rs) i []
-item_at rs before count i lt =
-    let z : before + (i + 1) - 1 ≡ before + i = omega arith in
-    ap (λ n. get_or rs n []) z ∙ sym (get_or-between rs before (before + count) i [] (omega arith))
+  pub left-next : before + count ≤ length rs → (n : ℕ) → 1 ≤ n → n ≤ count → left_from n ≡ get_or rs (before + n - 1) [] ∷ left_from (n + 1)
+  left-next fits n low high =
+      let i : ℕ = before + n - 1 in
+      let more : before + count - i ≡ suc (before + count - (before + (n + 1) - 1)) = omega arith in
+      let on : i + 1 ≡ before + (n + 1) - 1 = omega arith in
+      ap (λ k. take k (drop i rs)) more
+      ∙ ap (take (suc (before + count - (before + (n + 1) - 1)))) (at_drop_more (λ l. l) rs i [] (omega arith))
+      ∙ ap (λ k. get_or rs i [] ∷ take (before + count - (before + (n + 1) - 1)) (drop k rs)) on
+
+  pub left-none : (n : ℕ) → count < n → left_from n ≡ []
+  left-none n past = let none : before + count - (before + n - 1) ≡ 0 = omega arith in ap (λ k. take k (drop (before + n - 1) rs)) none

@@ -1,19 +1,16 @@
 -- The first entry with a time stamp, sought from the last entry back.
-use Rattle.std.proofs.Common.{◌≡◌, ℕ, suc, ◌+◌, ◌-◌, ◌<◌, ◌≤◌, Bool, true, false, cond, List, [], ◌∷◌, ◌++◌, map, reverse, length, get_or, Some, None, Ok, Option, sym, refl, ap, ◌∙◌, arith}
+use Rattle.std.proofs.Common.{◌≡◌, ℕ, suc, ◌+◌, ◌-◌, ◌≤◌, Bool, true, false, cond, List, [], ◌∷◌, ◌++◌, map, reverse, length, get_or, Some, None, Option, sym, refl, ap, ◌∙◌, arith}
 use mathlib.Core.List.{reverse-cons}
 use Rattle.std.proofs.lemmas.List.Edits.{length-between, get_or-between, between_none}
-use Rattle.std.proofs.lemmas.List.{length-map, length-reverse, nil_from_length}
+use Rattle.std.proofs.lemmas.List.{length-map, length-reverse}
 use Rattle.std.proofs.lemmas.Slice.{first_rest}
 use Rattle.std.specs.List.{between}
 use Rattle.std.specs.Option.{option_or}
 use Rattle.record.specs.declared.fields.Start.{Start}
-use Rattle.trailer.specs.declared.layout.Trailer.{Trailer}
-use Rattle.trailer.specs.Trailers.{read_trailer}
 use Rattle.filing.specs.Taking.{start_in, start_of, same_stamp, first_same}
-use Rattle.filing.specs.Volumes.{Records, Part, walk, entry_of}
-use Rattle.filing.proofs.Results.{err_not_ok}
-use Rattle.entries.specs.Walks.{parts_below, part_of}
-use Rattle.entries.proofs.Walks.{placed_at, below_some, stepped, walk_none}
+use Rattle.filing.specs.Volumes.{Records, Part, entry_of}
+use Rattle.entries.specs.Walks.{parts_below, numbered}
+use Rattle.entries.proofs.Walks.{Ahead, begun}
 
 -- what has no start record has no time stamp
 same_none : (x : Option Start) → same_stamp x None ≡ false
@@ -53,7 +50,7 @@ or_cond None false k later = refl
 or_cond (Some j) b k later = refl
 
 -- the first among these parts, which have the newest first
-abbrev first_in : Option Start → List Part → Option ℕ
+abbrev pub first_in : Option Start → List Part → Option ℕ
 first_in x ps = first_same x 1 (reverse (map entry_of ps))
 
 first_part : (x : Option Start) (p : Part) (ps : List Part) → first_in x (p ∷ ps) ≡ option_or (first_in x ps) (cond (same_stamp x (start_of p.entry)) (Some (1 + length ps)) None)
@@ -63,44 +60,21 @@ first_part x p ps =
     ∙ first-last x 1 (reverse (map entry_of ps)) p.entry
     ∙ ap (λ n. option_or (first_in x ps) (cond (same_stamp x (start_of p.entry)) (Some (1 + n)) None)) long
 
--- sought from the last entry back: what is left, or else what was found, gives the whole
-pub record Seeking (x : Option Start) (rs : Records) (top at left : ℕ) (later : Option ℕ) : Type 0 where
-  pub fuel : ℕ
-  pub parts : List Part
-  pub is : walk rs at fuel ≡ Ok parts
-  pub many : length parts ≡ left
-  pub inside : at ≤ length rs
-  pub gives : option_or (first_in x parts) later ≡ first_in x (parts_below rs top)
+-- Sought from the last entry back: what is left, or else what was found, gives the whole.
+abbrev pub Seeking : Option Start → Option ℕ → Option ℕ → List Part → Type 0
+Seeking x later whole ps = option_or (first_in x ps) later ≡ whole
 
-module _ (x : Option Start) (rs : Records) (top at left : ℕ) (later : Option ℕ) (b : Seeking x rs top at left later) where
-  pub seeking_end : left ≤ 0 → later ≡ first_in x (parts_below rs top)
-  seeking_end h =
-      let none = nil_from_length b.parts (omega (arith, b.many)) in
-      ap (λ ps. option_or (first_in x ps) later) (sym none) ∙ b.gives
+or_none : (o : Option ℕ) → option_or o None ≡ o
+or_none None = refl
+or_none (Some k) = refl
 
-  module _ (some : 0 < left) where
-    pub seeking_at : 0 < at
-    seeking_at = below_some rs at b.fuel b.parts b.is (omega (arith, b.many))
+pub seeking_begun : (x : Option Start) (rs : Records) (at : ℕ) → at ≤ length rs → Ahead rs (numbered (parts_below rs at)) (Seeking x None (first_in x (parts_below rs at)))
+seeking_begun x rs at h = begun rs at (Seeking x None (first_in x (parts_below rs at))) h (or_none (first_in x (parts_below rs at)))
 
-    pub seeking_not_none : read_trailer (get_or rs (at - 1) []) at ≡ None → ⊥
-    seeking_not_none e = err_not_ok (sym (walk_none rs at b.fuel seeking_at e) ∙ b.is)
-
-    pub seeking_step : (t : Trailer) → read_trailer (get_or rs (at - 1) []) at ≡ Some t → (here : Bool) (found : Option ℕ) → here ≡ same_stamp x (start_of (part_of rs t).entry) → found ≡ cond here (Some left) later → Seeking x rs top t.previous (left - 1) found
-    seeking_step t e here found is next =
-        let st = stepped rs at b.fuel b.parts t seeking_at b.is e in
-        let place = placed_at (get_or rs (at - 1) []) at t e in
-        let long = ap length st.same in
-        let k : 1 + length st.rest ≡ left = omega (arith, b.many) in
-        let before = first_in x st.rest in
-        let all : first_in x b.parts ≡ option_or before (cond here (Some left) None) =
-        ap (first_in x) (sym st.same) ∙ first_part x (part_of rs t) st.rest
-        ∙ ap (λ n. option_or before (cond (same_stamp x (start_of (part_of rs t).entry)) (Some n) None)) k
-        ∙ ap (λ c. option_or before (cond c (Some left) None)) (sym is) in
-        record {
-          fuel = st.fuel;
-          parts = st.rest;
-          is = st.is;
-          many = omega arith;
-          inside = omega (arith, b.inside);
-          gives = ap (option_or before) next ∙ sym (or_cond before here left later) ∙ ap (λ o. option_or o later) (sym all) ∙ b.gives;
-        }
+pub seeking_step : (x : Option Start) (k : ℕ) (p : Part) (here : Bool) (later whole : Option ℕ) → here ≡ same_stamp x (start_of p.entry)
+    → (ps : List Part) → suc (length ps) ≡ k → Seeking x later whole (p ∷ ps) → Seeking x (cond here (Some k) later) whole ps
+seeking_step x k p here later whole is ps many h =
+    let before = first_in x ps in
+    let last : 1 + length ps ≡ k = omega (arith, many) in
+    let all : first_in x (p ∷ ps) ≡ option_or before (cond here (Some k) None) = first_part x p ps ∙ (λ i. option_or before (cond (sym is i) (Some (last i)) None)) in
+    sym (or_cond before here k later) ∙ ap (λ o. option_or o later) (sym all) ∙ h

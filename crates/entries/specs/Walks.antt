@@ -1,9 +1,9 @@
 -- What a walk over a shelf finds, as code holds it: how many entries, and a trailer at a time.
-use Rattle.std.specs.Prelude.{ℕ, ◌+◌, List, [], length, Ok, Err, Result}
+use Rattle.std.specs.Prelude.{ℕ, suc, ◌+◌, cond, List, [], ◌∷◌, length, Some, None, Ok, Err, Option, Result, ◌==◌}
 use Rattle.std.specs.List.{between}
 use Rattle.trailer.specs.declared.layout.Trailer.{Trailer}
 use Rattle.filing.specs.declared.faults.VolumeFault.{VolumeFault}
-use Rattle.filing.specs.Volumes.{Part, Records, walk, parts_or, no_totals}
+use Rattle.filing.specs.Volumes.{Part, Records, walk, parts_or}
 
 -- how many parts were found, with k counted before
 abbrev pub counted_from : ℕ → Result (List Part) VolumeFault → Result ℕ VolumeFault
@@ -18,9 +18,16 @@ counted (Err e) = Err e
 abbrev pub parts_below : Records → ℕ → List Part
 parts_below rs top = parts_or (walk rs top top)
 
+-- the trailers of such parts, each with its entry's number
+abbrev pub numbered : List Part → List (ℕ × Trailer)
+numbered [] = []
+numbered (p ∷ ps) = (suc (length ps), p.trailer) ∷ numbered ps
+
 -- a trailer with the entry before it
 abbrev pub part_of : Records → Trailer → Part
 part_of rs t = record { entry = between t.previous (t.previous + t.records) rs; trailer = t }
 
-abbrev pub no_part : Part
-no_part = record { entry = []; trailer = record { records = 0; entry = 0; previous = 0; totals = no_totals } }
+-- the part of the entry with this number
+abbrev pub part_numbered : ℕ → List Part → Option Part
+part_numbered k [] = None
+part_numbered k (p ∷ ps) = cond (suc (length ps) == k) (Some p) (part_numbered k ps)

@@ -7,8 +7,7 @@ mod reading;
 mod stamps;
 mod walking;
 
-pub use judging::judge_back;
-pub use lines::{Measure, item_of, lay_lines, measure_lines};
+pub use lines::{Measure, lay_lines, measure_lines};
 pub use reading::record_at;
-pub use stamps::{first_with, start_of};
-pub use walking::{find_entry, walk_back};
+pub use stamps::start_of;
+pub use walking::Walk;

@@ -1,44 +1,36 @@
 // The whole records at the front of a file, line by line: how many they are, and onto a shelf.
-ghost use Rattle.std.specs.Prelude.{◌≡◌, ◌+◌, ◌≤◌, ◌++◌, length, take};
+ghost use Rattle.std.specs.Prelude.{◌≡◌, ◌+◌, ◌≤◌, ◌++◌, length};
 ghost use Rattle.manual.specs.Slots.{slots};
 ghost use Rattle.manual.specs.Accepting.{front};
 ghost use Rattle.filing.specs.Entries.{deposits_from, no_deposits};
 
+use file::Lines;
 use filing::Deposits;
-use record::{Bare, classify, cut, width};
+use record::{Bare, classify};
 use shelf::Shelf;
 
 // What the records of a file come to, before any of them is laid on a shelf.
-#[derive(Clone, Copy)]
+#[derive(Clone, Copy, Debug, PartialEq, Eq)]
 pub struct Measure {
     pub records: usize,
     pub deposits: Deposits,
 }
 
-// The first 80 bytes: a shelf takes a record as an array.
-pub fn item_of(bytes: &[u8]) -> [u8; 80]
-    requires { 80 ≤ length bytes.now }
-    ensures { result ≡ take 80 bytes.now }
-{
-    let mut item = [0u8; 80];
-    item.copy_from_slice(&bytes[0..80]);
-    item
-}
-
 // Counts the whole records at the front of the file, and adds up their deposits. The first bytes that are no whole
 // record end it.
+#[tactic(auto, using(crate::proofs::FileLines::slots_few))]
 pub fn measure_lines(file: &[u8]) -> Measure
     ensures records { result.records ≡ length (front (slots file.now)) }
     ensures deposits { result.deposits ≡ deposits_from no_deposits (front (slots file.now)) }
 {
     let mut records: usize = 0;
     let mut deposits = Deposits { sek: 0, eur: 0 };
-    let mut rest = file;
-    while let Some(end) = cut(rest) {
-        deposits.take(classify(&rest[0..80], &Bare));
+    for line in Lines::new(file) {
+        let Ok(record) = line else {
+            break;
+        };
+        deposits.take(classify(record, &Bare));
         records += 1;
-        let (_, after) = rest.split_at(width(end));
-        rest = after;
     }
     Measure { records, deposits }
 }
@@ -50,10 +42,10 @@ pub fn lay_lines<S: Shelf>(shelf: &mut S, file: &[u8])
     ensures limit { S.room shelf.new ≡ S.room shelf.old }
     ensures same { S.same shelf.old shelf.new }
 {
-    let mut rest = file;
-    while let Some(end) = cut(rest) {
-        let _ = shelf.add(&item_of(rest));
-        let (_, after) = rest.split_at(width(end));
-        rest = after;
+    for line in Lines::new(file) {
+        let Ok(record) = line else {
+            break;
+        };
+        let _ = shelf.add(record);
     }
 }

@@ -3,18 +3,15 @@ ghost use Rattle.std.specs.Prelude.{◌≡◌, ◌+◌, ◌-◌, ◌<◌, ◌≤
 ghost use Rattle.std.specs.List.{between};
 ghost use Rattle.record.specs.Classes.{class_of};
 ghost use Rattle.record.specs.Editions.{bare};
-ghost use Rattle.manual.specs.Judging.{slot_step};
-ghost use Rattle.manual.specs.Laws.{not_judging};
-ghost use Rattle.file.specs.Judges.{held_by, outcome};
+ghost use Rattle.file.specs.Lines.{slot_in};
 ghost use Rattle.filing.specs.Entries.{slot_of, deposits_behind, reads};
 
 use field::texts;
-use file::{Judge, at_record, ended, too_many};
+use file::{Broken, Judge, NotJudged};
 use filing::Deposits;
-use manual::{Cause, FileFault, Rules};
+use manual::FileFault;
 use record::{Bare, classify};
 use shelf::Shelf;
-use sums::Row;
 use trailer::Totals;
 
 // The record with this shelf number.
@@ -27,21 +24,11 @@ pub fn record_at<S: Shelf>(shelf: &S, at: usize) -> [u8; 80]
     item
 }
 
-// One record of an entry: what is wrong with it, or the judge behind it.
-fn judge_item(judge: &mut Judge, item: &[u8; 80]) -> Result<(), Cause>
-    ensures { outcome result (held_by judge.new []) ≡ slot_step not_judging bare (held_by judge.old []) (slot_of item.now) }
+// The record as a line of a file: a whole one where all of it is text.
+fn line_of(item: &[u8; 80]) -> Result<&[u8; 80], Broken>
+    ensures { slot_in result ≡ slot_of item.now }
 {
-    if !texts(item) {
-        return Err(Cause::Broken);
-    }
-    let mut rows: [Row<u64>; 0] = [];
-    let mut used = 0;
-    judge.step(
-        classify(item, &Bare),
-        Rules { payers: false },
-        &mut rows,
-        &mut used,
-    )
+    if texts(item) { Ok(item) } else { Err(Broken) }
 }
 
 // The deposits with what this record adds to them.
@@ -56,31 +43,14 @@ pub fn read_entry<S: Shelf>(shelf: &S, before: usize, count: usize) -> Result<To
     requires { before + count ≤ length (S.records shelf.now) }
     ensures { result ≡ reads (between before (before + count) (S.records shelf.now)) }
 {
-    let mut judge = Judge::new();
+    let mut judge = Judge::new(NotJudged);
     let mut deposits = Deposits { sek: 0, eur: 0 };
+    // from 0, though records count from 1: `1..=count` ends the loop in two ways, and no proof was found that says its step once
     for i in 0..count {
         let number = i + 1;
-        if too_many(number) {
-            return Err(FileFault {
-                number,
-                cause: Cause::TooMany,
-            });
-        }
         let item = record_at(shelf, before + number);
-        at_record(number, judge_item(&mut judge, &item))?;
+        judge.read(number, line_of(&item), &Bare)?;
         add_deposit(&mut deposits, &item);
     }
-    if ended(judge.place) {
-        Ok(Totals {
-            payments: judge.counts.payments,
-            deductions: judge.counts.deductions,
-            sek: deposits.sek,
-            eur: deposits.eur,
-        })
-    } else {
-        Err(FileFault {
-            number: count + 1,
-            cause: Cause::Unfinished,
-        })
-    }
+    Ok(deposits.totals(judge.finish(count + 1)?))
 }

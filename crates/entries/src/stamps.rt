@@ -1,11 +1,11 @@
 // Time stamps of entries: which entry of a volume has a given one.
-ghost use Rattle.std.specs.Prelude.{◌≡◌, ◌+◌, ◌≤◌, map, reverse, length, Ok};
+ghost use Rattle.std.specs.Prelude.{◌≡◌, ◌+◌, ◌≤◌, map, reverse, length};
 ghost use Rattle.filing.specs.Taking.{start_in, start_of, same_stamp, first_same};
-ghost use Rattle.filing.specs.Volumes.{walk, entry_of};
-ghost use Rattle.entries.specs.Walks.{counted, parts_below, part_of};
+ghost use Rattle.filing.specs.Volumes.{entry_of};
+ghost use Rattle.entries.specs.Walks.{parts_below, part_of};
 
 use crate::reading::record_at;
-use crate::walking::trailer_at;
+use crate::walking::Walk;
 use record::{Bare, Class, Core, Start, classify};
 use shelf::Shelf;
 use trailer::Trailer;
@@ -20,53 +20,40 @@ pub fn start_of(item: &[u8; 80]) -> Option<Start>
     }
 }
 
-// Whether both are start records, and have one time stamp.
+// Whether both are start records, and have one time stamp. No `==`, since their marks may differ.
 fn same_stamp(x: Option<Start>, y: Option<Start>) -> bool
     ensures { result ≡ same_stamp x y }
 {
-    match (x, y) {
-        (Some(x), Some(y)) => y.stamp == x.stamp,
-        _ => false,
-    }
+    x.is_some_and(|x| y.is_some_and(|y| y.stamp == x.stamp))
 }
 
 // Whether the entry before this trailer has the time stamp. An entry of no records has none.
-fn has_same<S: Shelf>(shelf: &S, t: Trailer, start: Option<Start>) -> bool
-    requires { t.previous + t.records ≤ length (S.records shelf.now) }
-    ensures { result ≡ same_stamp start (start_of (part_of (S.records shelf.now) t).entry) }
+#[tactic(auto, using(crate::proofs::EntryStamps::no_start, crate::proofs::EntryStamps::start_at))]
+fn has_same<S: Shelf>(shelf: &S, trailer: Trailer, start: Option<Start>) -> bool
+    requires { trailer.previous + trailer.records ≤ length (S.records shelf.now) }
+    ensures { result ≡ same_stamp start (start_of (part_of (S.records shelf.now) trailer).entry) }
 {
-    if t.records == 0 {
+    if trailer.records == 0 {
         return false;
     }
-    same_stamp(start, start_of(&record_at(shelf, t.previous as usize + 1)))
+    same_stamp(
+        start,
+        start_of(&record_at(shelf, trailer.previous as usize + 1)),
+    )
 }
 
-// The number of the first entry in the first `top` records that has the time stamp, in one walk back: the one that is
-// met last is the first.
-pub fn first_with<S: Shelf>(
-    shelf: &S,
-    top: usize,
-    entries: usize,
-    start: Option<Start>,
-) -> Option<usize>
-    requires top { top ≤ length (S.records shelf.now) }
-    requires walked { counted (walk (S.records shelf.now) top top) ≡ Ok entries }
-    ensures { result ≡ first_same start 1 (reverse (map entry_of (parts_below (S.records shelf.now) top))) }
-{
-    let mut at = top;
-    let mut left = entries;
-    let mut found: Option<usize> = None;
-    while left > 0 {
-        match trailer_at(shelf, at) {
-            Some(t) => {
-                if has_same(shelf, t, start) {
-                    found = Some(left);
-                }
-                left -= 1;
-                at = t.previous as usize;
+impl<'a, S: Shelf> Walk<'a, S> {
+    // The number of the first entry still to come that has the time stamp: of those that have it, the one met last.
+    pub fn first_with(self, start: Option<Start>) -> Option<usize>
+        ensures { result ≡ first_same start 1 (reverse (map entry_of (parts_below (S.records self.entry.shelf.now) self.entry.at))) }
+    {
+        let shelf = self.shelf;
+        let mut found = None;
+        for (number, trailer) in self {
+            if has_same(shelf, trailer, start) {
+                found = Some(number);
             }
-            None => unreachable(),
         }
+        found
     }
-    found
 }

@@ -1,7 +1,6 @@
 -- What a byte may be, and a test of every byte of a part.
-use Rattle.std.specs.Prelude.{ℕ, Bool, true, ◌&&◌, ◌||◌, List, [], ◌∷◌, ◌==◌, nat_le}
-use Rattle.field.specs.declared.bytes.Sort.{Sort}
-use Rattle.field.specs.declared.bytes.Sort.TheVariants.{Digit, Text, Blank}
+use Rattle.std.specs.Prelude.{ℕ, Bool, ◌&&◌, ◌||◌, List, ◌==◌, nat_le}
+use Rattle.std.specs.List.{list_all}
 
 -- a digit is a byte from 48 to 57
 abbrev pub is_digit : ℕ → Bool
@@ -17,11 +16,4 @@ is_blank b = b == 32
 
 -- whether each byte of the part passes the test
 abbrev pub every : (ℕ → Bool) → List ℕ → Bool
-every p [] = true
-every p (b ∷ bs) = p b && every p bs
-
--- the test of each sort of byte
-abbrev pub test_of : Sort → ℕ → Bool
-test_of Digit = is_digit
-test_of Text = is_text
-test_of Blank = is_blank
+every p bs = list_all p bs

@@ -1,5 +1,6 @@
 // Parts of a record: text, digits, numbers, currencies, dates, time stamps and references.
-// A reader is handed its part as a slice and knows nothing of the record around it.
+// A reader is handed its part as a slice and knows nothing of the record around it: a rule of the project, for which each
+// reader asks for its part's length in a clause.
 #![tactic(auto)]
 
 mod bytes;

@@ -3,7 +3,7 @@ ghost use Rattle.field.specs.Money.{currency_of, amount_of};
 
 use crate::numbers::read_number;
 
-#[derive(Clone, Copy)]
+#[derive(Clone, Copy, Debug, PartialEq, Eq)]
 pub enum Currency {
     Sek,
     Eur,
@@ -13,9 +13,9 @@ pub fn read_currency(part: &[u8]) -> Option<Currency>
     requires { length part.now ≡ 3 }
     ensures { result ≡ currency_of part.now }
 {
-    match (part[0], part[1], part[2]) {
-        (b'S', b'E', b'K') => Some(Currency::Sek),
-        (b'E', b'U', b'R') => Some(Currency::Eur),
+    match part {
+        b"SEK" => Some(Currency::Sek),
+        b"EUR" => Some(Currency::Eur),
         _ => None,
     }
 }
@@ -25,10 +25,5 @@ pub fn read_amount(part: &[u8]) -> Option<u64>
     requires { length part.now ≡ 18 }
     ensures { result ≡ amount_of part.now }
 {
-    let n = read_number(part)?;
-    if n <= 9_999_999_999_999 {
-        Some(n)
-    } else {
-        None
-    }
+    read_number(part).filter(|n| *n <= 9_999_999_999_999)
 }

@@ -4,6 +4,7 @@ ghost use Rattle.field.specs.Numbers.{number_of};
 use crate::bytes::digit;
 
 // The number that 1 to 19 digits write; none where another byte is among them.
+#[tactic(auto, using(crate::proofs::Steps::ten_room))]
 pub fn read_number(part: &[u8]) -> Option<u64>
     requires { (1 ≤ length part.now) × (length part.now ≤ 19) }
     ensures value { result ≡ number_of part.now }
@@ -14,7 +15,7 @@ pub fn read_number(part: &[u8]) -> Option<u64>
         if !digit(*b) {
             return None;
         }
-        n = n * 10 + (*b - b'0') as u64;
+        n = n * 10 + u64::from(*b - b'0');
     }
     Some(n)
 }
@@ -23,10 +24,11 @@ pub fn read_number(part: &[u8]) -> Option<u64>
 fn joined(high: u64, low: u64) -> u128
     ensures { result ≡ high * 10000000000 + low }
 {
-    high as u128 * 10_000_000_000 + low as u128
+    u128::from(high) * 10_000_000_000 + u128::from(low)
 }
 
 // The number that twenty digits write, which no u64 holds: those of a time stamp.
+#[tactic(auto, using(crate::proofs::Halves::halves))]
 pub fn read_twenty(part: &[u8]) -> Option<u128>
     requires { length part.now ≡ 20 }
     ensures { result ≡ number_of part.now }

@@ -1,2 +1,3 @@
 pub mod Entering
-pub mod Turns
+pub mod LineSlots
+pub mod Steps

@@ -1,3 +1,5 @@
 pub mod Judges
 pub mod Numbering
 pub mod Single
+pub mod Lines
+pub mod Payers

@@ -7,8 +7,5 @@ use manual::{Cause, FileFault};
 pub fn at_record<T>(number: usize, answer: Result<T, Cause>) -> Result<T, FileFault>
     ensures { result ≡ numbered number answer }
 {
-    match answer {
-        Ok(value) => Ok(value),
-        Err(cause) => Err(FileFault { number, cause }),
-    }
+    answer.map_err(|cause| FileFault { number, cause })
 }

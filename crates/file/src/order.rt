@@ -10,8 +10,8 @@ pub fn follows(place: Place, kind: Kind) -> bool
     ensures { result ≡ may_follow place kind }
 {
     match place {
-        Place::Fresh => matches!(kind, Kind::Start),
-        Place::Begun => matches!(kind, Kind::Opening),
+        Place::Fresh => kind == Kind::Start,
+        Place::Begun => kind == Kind::Opening,
         Place::Opened => matches!(kind, Kind::Payment | Kind::Deduction),
         Place::Within(stage) => follows_in_item(stage, kind),
         Place::Between => matches!(kind, Kind::Opening | Kind::End),
@@ -24,12 +24,12 @@ fn follows_in_item(stage: Stage, kind: Kind) -> bool
     ensures { result ≡ may_follow (Within stage) kind }
 {
     match kind {
-        Kind::ExtraReference | Kind::NegativeReference => matches!(stage, Stage::Head),
+        Kind::ExtraReference | Kind::NegativeReference => stage == Stage::Head,
         Kind::Information | Kind::Name => matches!(stage, Stage::Head | Stage::Information),
         Kind::AddressOne => matches!(stage, Stage::Head | Stage::Information | Stage::Name),
-        Kind::AddressTwo => matches!(stage, Stage::HalfAddress),
+        Kind::AddressTwo => stage == Stage::HalfAddress,
         Kind::CompanyNumber => !matches!(stage, Stage::HalfAddress | Stage::CompanyNumber),
-        Kind::Payment | Kind::Deduction | Kind::Deposit => !matches!(stage, Stage::HalfAddress),
+        Kind::Payment | Kind::Deduction | Kind::Deposit => stage != Stage::HalfAddress,
         Kind::Start | Kind::Opening | Kind::End => false,
     }
 }
@@ -42,8 +42,9 @@ pub fn place_behind(kind: Kind) -> Place
         Kind::Start => Place::Begun,
         Kind::Opening => Place::Opened,
         Kind::Deposit => Place::Between,
-        Kind::Payment | Kind::Deduction => Place::Within(Stage::Head),
-        Kind::ExtraReference | Kind::NegativeReference => Place::Within(Stage::Head),
+        Kind::Payment | Kind::Deduction | Kind::ExtraReference | Kind::NegativeReference => {
+            Place::Within(Stage::Head)
+        }
         Kind::Information => Place::Within(Stage::Information),
         Kind::Name => Place::Within(Stage::Name),
         Kind::AddressOne => Place::Within(Stage::HalfAddress),
@@ -57,14 +58,14 @@ pub fn place_behind(kind: Kind) -> Place
 pub fn begun(place: Place) -> bool
     ensures { result ≡ begun_term place }
 {
-    !matches!(place, Place::Fresh)
+    place != Place::Fresh
 }
 
 // Whether the end record has come.
 pub fn ended(place: Place) -> bool
     ensures { result ≡ ended_term place }
 {
-    matches!(place, Place::Done)
+    place == Place::Done
 }
 
 // Whether a rider of this level may stand at this place.
@@ -73,8 +74,8 @@ pub fn sits(place: Place, level: Level) -> bool
 {
     match place {
         Place::Fresh | Place::Done => false,
-        Place::Begun | Place::Between => matches!(level, Level::File),
-        Place::Opened => matches!(level, Level::Section),
-        Place::Within(_) => matches!(level, Level::Item),
+        Place::Begun | Place::Between => level == Level::File,
+        Place::Opened => level == Level::Section,
+        Place::Within(_) => level == Level::Item,
     }
 }

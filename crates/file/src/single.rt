@@ -4,10 +4,10 @@ ghost use Rattle.file.specs.Single.{one_of};
 
 use crate::numbering::at_record;
 use manual::{Cause, FileFault};
-use record::{Class, Edition, classify, cut, sound, width};
+use record::{Class, Edition, classify, cut, sound};
 
 // One record of a file.
-#[derive(Clone, Copy)]
+#[derive(Clone, Copy, Debug, PartialEq, Eq)]
 pub struct One {
     pub class: Class,
     // the bytes that it takes, line end included
@@ -24,7 +24,7 @@ fn first_record<E: Edition>(bytes: &[u8], edition: &E) -> Result<One, Cause>
     let class = sound(classify(&bytes[0..80], edition))?;
     Ok(One {
         class,
-        width: width(end),
+        width: end.width(),
     })
 }
 

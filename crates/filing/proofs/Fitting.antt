@@ -1,5 +1,5 @@
 -- Entries that can be read: what they come to fits a trailer's digits, and a file that is accepted is one.
-use Rattle.std.proofs.Common.{◌≡◌, ℕ, suc, ◌+◌, ◌*◌, ◌<◌, ◌≤◌, Bool, true, false, cond, ◌&&◌, eqb, leb, ◌⊎◌, List, [], ◌∷◌, map, length, Ok, Err, Result, sym, refl, ap, ◌∙◌, subst, inl, inr, ⊎_elim, arith}
+use Rattle.std.proofs.Common.{◌≡◌, ℕ, suc, ◌+◌, ◌*◌, ◌<◌, ◌≤◌, Bool, true, false, cond, ◌&&◌, eqb, leb, ◌⊎◌, List, [], ◌∷◌, map, length, Some, None, Ok, Err, Result, sym, refl, ap, ◌∙◌, subst, inl, inr, ⊎_elim, arith}
 use Rattle.std.specs.List.{between, AllByRecursion}
 use Rattle.std.proofs.lemmas.Bool.{false≢true, eqb-true, leb-true, and_parts, or_cases, cond-true}
 use Rattle.field.specs.declared.money.Currency.{Currency}
@@ -121,7 +121,7 @@ module _ (n : ℕ) (s : State) (x : Deposits) (few : n ≤ 50000) (h : Held n s 
   over : (r : List ℕ) (y : Class) (t : State) → Seen bare r y → step not_judging s y ≡ Ok t → Held (suc n) t (deposits_behind x y)
   over r _ t (classes.bad e) q = absurd (false≢true (passed (tests not_judging s class.BadCode) s t q).0.0)
   over r _ t (classes.core c k e g u) q = over-core k (between 2 (length r) r) (read_core k (between 2 (length r) r)) t refl q
-  over r _ t (classes.rider c e g k) q = absurd (false≢true k)
+  over r _ t (classes.rider c v e g k) q = let none : None ≡ Some v = k in let z : ◌≡◌ {A = ℕ} 0 1 = cc in absurd (omega arith)
   over r _ t (classes.unknown c e g u) q = subst (λ u. Held (suc n) u x) (sym (unknown_passes not_judging s t q)) kept
 
 -- What an entry comes to.

@@ -7,7 +7,7 @@ use Rattle.shelf.specs.Records.{Whole}
 use Rattle.trailer.specs.Trailers.{closing_of, right_closing, closing_says}
 use Rattle.trailer.specs.Laws.{TrailerLaws}
 use Rattle.filing.specs.declared.faults.VolumeFault.{VolumeFault}
-use Rattle.filing.specs.declared.faults.VolumeFault.TheVariants.{NoRoom, NoTrailer, Differs}
+use Rattle.filing.specs.declared.faults.VolumeFault.TheVariants.{NoRoom, NoTrailer, ClosingDiffers}
 use Rattle.filing.specs.declared.standing.Opened.{Opened}
 use Rattle.filing.specs.declared.standing.Standing.TheVariants.{Open, Closed}
 use Rattle.filing.specs.Volumes.{Records, Reads, laid, lay, Part, walk, judge, judged, begins_98, last_of, found, ends_open, ends_closed}
@@ -52,7 +52,7 @@ module _ (reads : Reads) (limit : ℕ) (rs : Records) (o : Opened) where
   way_closed b e =
       let r = cond_ok (right_closing (last_of rs) (length rs)) _ (NoTrailer (length rs)) o e in
       let t = through (length rs - 1) (ends_closed rs) r.1 in
-      let c = cond_ok (closing_says (last_of rs) (length t.0)) (Ok (found Closed (length rs) t.0)) (Differs 0) o t.2 in
+      let c = cond_ok (closing_says (last_of rs) (length t.0)) (Ok (found Closed (length rs) t.0)) ClosingDiffers o t.2 in
       subst Way (ok_same c.1) (as_closed t.0 b r.0 t.1 c.0)
 
   answered : opening reads limit rs ≡ Ok o → Way o

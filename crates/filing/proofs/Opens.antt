@@ -6,7 +6,7 @@ use Rattle.field.specs.Chains.{then}
 use Rattle.trailer.specs.Trailers.{trailer_of, closing_of, right_closing, closing_says}
 use Rattle.trailer.specs.Laws.{TrailerLaws}
 use Rattle.filing.specs.declared.faults.VolumeFault.{VolumeFault}
-use Rattle.filing.specs.declared.faults.VolumeFault.TheVariants.{NoRoom, NoTrailer, Differs}
+use Rattle.filing.specs.declared.faults.VolumeFault.TheVariants.{NoRoom, NoTrailer, ClosingDiffers}
 use Rattle.filing.specs.declared.standing.Opened.{Opened}
 use Rattle.filing.specs.declared.standing.Standing.{Standing}
 use Rattle.filing.specs.declared.standing.Standing.TheVariants.{Open, Closed}
@@ -94,7 +94,7 @@ module _ (reads : Reads) where
         cond-true (begins_98 (last_of rs)) (opening_closed reads rs) (opening_open reads limit rs) (volume_code Closed es)
         ∙ cond-true (right_closing (last_of rs) (length rs)) _ (Err (NoTrailer (length rs))) right
         ∙ passes Closed (ends_closed rs) (length rs - 1) (length-volume Closed es)
-        ∙ cond-true _ _ (Err (Differs 0)) says
+        ∙ cond-true _ _ (Err ClosingDiffers) says
         ∙ ap Ok (answer Closed)
 
     -- the entries of a volume are those that were laid

@@ -8,7 +8,7 @@ use Rattle.trailer.specs.declared.layout.Totals.{Totals}
 use Rattle.trailer.specs.declared.layout.Trailer.{Trailer}
 use Rattle.trailer.specs.Trailers.{trailer_of, closing_of, read_trailer, right_closing, closing_says}
 use Rattle.filing.specs.declared.faults.VolumeFault.{VolumeFault}
-use Rattle.filing.specs.declared.faults.VolumeFault.TheVariants.{NoRoom, NoTrailer, Unreadable, Differs}
+use Rattle.filing.specs.declared.faults.VolumeFault.TheVariants.{NoRoom, NoTrailer, Unreadable, Differs, ClosingDiffers}
 use Rattle.filing.specs.declared.standing.Opened.{Opened}
 use Rattle.filing.specs.declared.standing.Standing.{Standing}
 use Rattle.filing.specs.declared.standing.Standing.TheVariants.{Open, Closed}
@@ -123,7 +123,7 @@ ends_open limit rs ps = cond (nat_lt (length rs) limit) (Ok (found Open (length 
 
 -- the end of a closed volume: the closing record has the number of entries, and its zeros
 abbrev pub ends_closed : Records → List Part → Result Opened VolumeFault
-ends_closed rs ps = cond (closing_says (last_of rs) (length ps)) (Ok (found Closed (length rs) ps)) (Err (Differs 0))
+ends_closed rs ps = cond (closing_says (last_of rs) (length ps)) (Ok (found Closed (length rs) ps)) (Err ClosingDiffers)
 
 abbrev pub opening_open : Reads → ℕ → Records → Result Opened VolumeFault
 opening_open reads limit rs = then (walk rs (length rs) (length rs)) (judged reads (ends_open limit rs))

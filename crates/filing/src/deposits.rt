@@ -1,11 +1,12 @@
 ghost use Rattle.std.specs.Prelude.{◌≡◌};
-ghost use Rattle.filing.specs.Entries.{with_deposit, deposits_behind};
+ghost use Rattle.filing.specs.Entries.{with_deposit, deposits_behind, totals_of};
 
 use field::Currency;
-use record::{Class, Core, Deposit};
+use record::{Class, Core, Deposit, End};
+use trailer::Totals;
 
 // The deposits of an entry, by currency, in öre and in cents.
-#[derive(Clone, Copy)]
+#[derive(Clone, Copy, Debug, PartialEq, Eq)]
 pub struct Deposits {
     pub sek: u64,
     pub eur: u64,
@@ -27,6 +28,18 @@ impl Deposits {
     {
         if let Class::Core(_, Ok(Core::Deposit(d))) = class {
             self.add(d);
+        }
+    }
+
+    // What an entry with these deposits comes to, by the counts of its end record.
+    pub fn totals(self, counts: End) -> Totals
+        ensures { result ≡ totals_of counts self }
+    {
+        Totals {
+            payments: counts.payments,
+            deductions: counts.deductions,
+            sek: self.sek,
+            eur: self.eur,
         }
     }
 }

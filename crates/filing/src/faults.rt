@@ -2,11 +2,11 @@ ghost use Rattle.std.specs.Prelude.{◌≡◌};
 ghost use Rattle.filing.specs.declared.faults.VolumeFault.TheVariants.{File as OfFile};
 ghost use Rattle.filing.specs.Refusals.{volume_refusal, file_within};
 
-use manual::{FileFault, refusal_of_file};
-use refusal::{Layer, Place, Refusal};
+use manual::FileFault;
+use refusal::{Layer, Place, Reason, Refusal};
 
 // Why a call of a volume is refused.
-#[derive(Clone, Copy)]
+#[derive(Clone, Copy, Debug, PartialEq, Eq)]
 pub enum VolumeFault {
     // the file to be taken in is refused
     File(FileFault),
@@ -22,8 +22,10 @@ pub enum VolumeFault {
     NoTrailer(usize),
     // the entry with this number cannot be read as a file, and why
     Unreadable(usize, FileFault),
-    // the entry with this number is not what its trailer says; 0 for the closing record
+    // the entry with this number is not what its trailer says
     Differs(usize),
+    // the closing record does not say how many entries there are, or has not its zeros
+    ClosingDiffers,
 }
 
 impl From<FileFault> for VolumeFault {
@@ -35,23 +37,30 @@ impl From<FileFault> for VolumeFault {
 }
 
 // What the refusal tells.
-pub fn refusal_of_volume(fault: VolumeFault) -> Refusal
-    ensures { result ≡ volume_refusal fault }
-{
-    let (number, place) = match fault {
-        VolumeFault::File(e) => return refusal_of_file(e),
-        VolumeFault::Marked => (20, Place::Nowhere),
-        VolumeFault::SameStamp(entry) => (21, Place::Entry(entry)),
-        VolumeFault::NoRoom => (22, Place::Nowhere),
-        VolumeFault::NoEntry(entry) => (24, Place::Entry(entry)),
-        VolumeFault::NoTrailer(n) => (30, Place::ShelfRecord(n)),
-        VolumeFault::Unreadable(entry, _) => (31, Place::Entry(entry)),
-        VolumeFault::Differs(entry) => (32, Place::Entry(entry)),
-    };
-    Refusal {
-        number,
-        layer: Layer::Volume,
-        place,
+impl From<VolumeFault> for Refusal {
+    ghost from_gives = { λ fault r. r ≡ volume_refusal fault };
+
+    fn from(fault: VolumeFault) -> Refusal {
+        let (reason, place) = match fault {
+            VolumeFault::File(e) => return Refusal::from(e),
+            VolumeFault::Marked => (Reason::MarkedTest, None),
+            VolumeFault::SameStamp(entry) => (Reason::SameTimeStamp, Some(Place::Entry(entry))),
+            VolumeFault::NoRoom => (Reason::NoRoom, None),
+            VolumeFault::NoEntry(entry) => (Reason::NoEntry, Some(Place::Entry(entry))),
+            VolumeFault::NoTrailer(n) => (Reason::NoTrailer, Some(Place::ShelfRecord(n))),
+            VolumeFault::Unreadable(entry, _) => (
+                Reason::EntryUnreadable,
+                Some(Place::Entry(entry)),
+            ),
+            VolumeFault::Differs(entry) => (Reason::TrailerDisagrees, Some(Place::Entry(entry))),
+            // the closing record is told as entry 0
+            VolumeFault::ClosingDiffers => (Reason::TrailerDisagrees, Some(Place::Entry(0))),
+        };
+        Refusal {
+            reason,
+            layer: Layer::Volume,
+            place,
+        }
     }
 }
 
@@ -60,7 +69,7 @@ pub fn refusal_within(fault: VolumeFault) -> Option<Refusal>
     ensures { result ≡ file_within fault }
 {
     match fault {
-        VolumeFault::Unreadable(_, e) => Some(refusal_of_file(e)),
+        VolumeFault::Unreadable(_, e) => Some(Refusal::from(e)),
         _ => None,
     }
 }

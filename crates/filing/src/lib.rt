@@ -6,5 +6,5 @@ mod faults;
 mod standing;
 
 pub use deposits::Deposits;
-pub use faults::{VolumeFault, refusal_of_volume, refusal_within};
+pub use faults::{VolumeFault, refusal_within};
 pub use standing::{Opened, Standing};

@@ -40,7 +40,7 @@ along_modest m _ _ _ (none o) = (tt, omega arith)
 along_modest m _ _ _ (core o c k f r rs ls e g u q w a) =
     let n = along_modest m _ rs ls a in
     ((read_modest k _ f (named k r) q, n.0), omega (arith, n.1))
-along_modest m _ _ _ (rider o c r rs ls e g k l q w a) = let n = along_modest m _ rs ls a in (n.0, omega (arith, n.1))
+along_modest m _ _ _ (rider o c v r rs ls e g k l q w a) = let n = along_modest m _ rs ls a in (n.0, omega (arith, n.1))
 along_modest m _ _ _ (unknown o c r rs ls e g u w a) = let n = along_modest m _ rs ls a in (n.0, omega (arith, n.1))
 
 -- the roles behind some front have no amount too large, and are so many fewer
@@ -119,7 +119,7 @@ starts m _ _ _ x rest (none o) e ready = let z : ◌≡◌ {A = ℕ} 0 1 = cc in
 starts m _ _ _ x rest (core o c k f r rs ls ec g u q w a) e ready =
     let same : role_of f (named k r) ≡ start x = cc in
     g ∙ ap Some (sym (read_kind k _ f q) ∙ ap (λ (l : Read Core). kind_in l.fields) (sym (leaf_role (leaf f (named k r)))) ∙ ap (λ (l : Role). kind_in (leaf_of l).fields) same)
-starts m _ _ _ x rest (rider o c r rs ls ec g k l q w a) e ready = absurd (false≢true (ready g))
+starts m _ _ _ x rest (rider o c v r rs ls ec g k l q w a) e ready = absurd (false≢true (ready g))
 starts m _ _ _ x rest (unknown o c r rs ls ec g u w a) e ready = absurd (false≢true (ready g))
 
 same_map : {A B : Type 0} (f : A → B) → ((x y : A) → f x ≡ f y → x ≡ y) → (xs ys : List A) → map f xs ≡ map f ys → xs ≡ ys
@@ -156,8 +156,8 @@ accepted cap m bs e h =
         some_section = w.some;
         each_section = stand.0;
         counted = counts_end r r.end.fields (subst (λ x. Ends begin.counts x r.end.fields) w.lies w.counted);
-        riders = λ before behind x c q code k.
-            let h = riders before behind x c q code k in
+        riders = λ before behind x c v q code k.
+            let h = riders before behind x c v q code k in
             record { level = sym (level-none (last_kind before)) ∙ h.0; formed = h.1 };
       },
       stand.1,
@@ -173,7 +173,7 @@ its_slots m bs r f = ap slots f.whole ∙ slots-lines f.lines
 accepts : (cap : ℕ) (m : Meaning) (bs : List ℕ) (r : Reading) → Follows m bs r → AllByRecursion (Roomy cap) r.sections → check_of (judging cap) m bs ≡ Ok r.end.fields
 accepts cap m bs r f roomy =
     let rs : List (List ℕ) = records f.lines in
-    let riders : Riders m None rs = λ before behind x c q code k. let h = f.riders before behind x c q code k in (level-none (last_kind before) ∙ h.level, h.formed) in
+    let riders : Riders m None rs = λ before behind x c v q code k. let h = f.riders before behind x c v q code k in (level-none (last_kind before) ∙ h.level, h.formed) in
     let same : map role (leaves r) ≡ roles r = ap (map role) (leaves_roles r) ∙ role_leaves (roles r) in
     let goes : Along m None rs (roles r) = subst (λ x. Along m None rs x) same (along m rs None (leaves r) f.coded f.read riders) in
     let many : length rs ≤ 50000 = omega (arith, f.few, length-map f.lines (λ (l : Line). l.bytes)) in

@@ -6,13 +6,12 @@ use Rattle.field.specs.Chains.{then}
 use Rattle.record.specs.declared.kinds.Kind.{Kind}
 use Rattle.record.specs.declared.fields.Core.{Core}
 use Rattle.record.specs.declared.editions.Level.{Level}
-use Rattle.record.specs.declared.editions.Level.TheVariants as level
 use Rattle.record.specs.declared.classes.Class.{Class}
 use Rattle.record.specs.declared.classes.Class.TheVariants as class
 use Rattle.record.specs.Layouts.{read_core}
 use Rattle.record.specs.Reserve.{used}
 use Rattle.record.specs.Classes.{code_in, class_of}
-use Rattle.record.specs.Editions.{Meaning, known}
+use Rattle.record.specs.Editions.{Meaning}
 use Rattle.record.specs.Laws.{kind_at}
 use Rattle.manual.specs.Manual.{Read, leaf, read_by, core_then, cores, last_of, last_kind, level_after}
 use Rattle.manual.proofs.Roles.{Role, role_of, role, leaf_of}
@@ -28,14 +27,14 @@ named k r = between 2 (used k) r
 pub data Along (m : Meaning) : Option Level → List (List ℕ) → List Role → Type 0 where
   none : (o : Option Level) → Along m o [] []
   core : (o : Option Level) (c : ℕ) (k : Kind) (f : Core) (r : List ℕ) (rs : List (List ℕ)) (ls : List Role)
-      → code_in r ≡ Some c → kind_at r ≡ Some k → m.level c ≡ level.Unknown → read_core k (between 2 (length r) r) ≡ Ok f → class_of m r ≡ class.Core k (Ok f)
+      → code_in r ≡ Some c → kind_at r ≡ Some k → m.level c ≡ None → read_core k (between 2 (length r) r) ≡ Ok f → class_of m r ≡ class.Core k (Ok f)
       → Along m (level_after k) rs ls → Along m o (r ∷ rs) (role_of f (named k r) ∷ ls)
-  rider : (o : Option Level) (c : ℕ) (r : List ℕ) (rs : List (List ℕ)) (ls : List Role)
-      → code_in r ≡ Some c → kind_at r ≡ None → known (m.level c) ≡ true → o ≡ Some (m.level c) → m.formed c r ≡ true
-      → class_of m r ≡ class.Rider (record { code = c; level = m.level c; formed = m.formed c r })
+  rider : (o : Option Level) (c : ℕ) (v : Level) (r : List ℕ) (rs : List (List ℕ)) (ls : List Role)
+      → code_in r ≡ Some c → kind_at r ≡ None → m.level c ≡ Some v → o ≡ Some v → m.formed c r ≡ true
+      → class_of m r ≡ class.Rider (record { code = c; level = v; formed = m.formed c r })
       → Along m o rs ls → Along m o (r ∷ rs) ls
   unknown : (o : Option Level) (c : ℕ) (r : List ℕ) (rs : List (List ℕ)) (ls : List Role)
-      → code_in r ≡ Some c → kind_at r ≡ None → m.level c ≡ level.Unknown → class_of m r ≡ class.Unknown
+      → code_in r ≡ Some c → kind_at r ≡ None → m.level c ≡ None → class_of m r ≡ class.Unknown
       → Along m o rs ls → Along m o (r ∷ rs) ls
 
 abbrev pub Coded : List (List ℕ) → Type 0
@@ -49,8 +48,8 @@ level_from o (Some k) = level_after k
 -- each rider stands where its level says and is well formed
 abbrev pub Riders : Meaning → Option Level → List (List ℕ) → Type 0
 Riders m o rs =
-    (before behind : List (List ℕ)) (x : List ℕ) (c : ℕ) → rs ≡ before ++ x ∷ behind → code_in x ≡ Some c → known (m.level c) ≡ true
-    → (level_from o (last_kind before) ≡ Some (m.level c)) × (m.formed c x ≡ true)
+    (before behind : List (List ℕ)) (x : List ℕ) (c : ℕ) (v : Level) → rs ≡ before ++ x ∷ behind → code_in x ≡ Some c → m.level c ≡ Some v
+    → (level_from o (last_kind before) ≡ Some v) × (m.formed c x ≡ true)
 
 level_on : (o : Option Level) (k l : Option Kind) → level_from o (last_of k l) ≡ level_from (level_from o k) l
 level_on o k None = refl
@@ -58,38 +57,38 @@ level_on o k (Some j) = refl
 
 module _ (m : Meaning) (o : Option Level) (r : List ℕ) (rs : List (List ℕ)) where
   -- a record in front of riders that are right, and back
-  riders_cons : ((c : ℕ) → code_in r ≡ Some c → known (m.level c) ≡ true → (o ≡ Some (m.level c)) × (m.formed c r ≡ true)) → Riders m (level_from o (kind_at r)) rs → Riders m o (r ∷ rs)
-  riders_cons here go [] behind x c e code k =
+  riders_cons : ((c : ℕ) (v : Level) → code_in r ≡ Some c → m.level c ≡ Some v → (o ≡ Some v) × (m.formed c r ≡ true)) → Riders m (level_from o (kind_at r)) rs → Riders m o (r ∷ rs)
+  riders_cons here go [] behind x c v e code k =
       let same : r ≡ x = cc in
-      let h = here c (ap code_in same ∙ code) k in
+      let h = here c v (ap code_in same ∙ code) k in
       (h.0, subst (λ y. m.formed c y ≡ true) same h.1)
-  riders_cons here go (b ∷ bs) behind x c e code k =
+  riders_cons here go (b ∷ bs) behind x c v e code k =
       let same : r ≡ b = cc in
       let rest : rs ≡ bs ++ x ∷ behind = cc in
-      let h = go bs behind x c rest code k in
+      let h = go bs behind x c v rest code k in
       (level_on o (kind_at b) (last_kind bs) ∙ ap (λ y. level_from (level_from o (kind_at y)) (last_kind bs)) (sym same) ∙ h.0, h.1)
 
   riders-tail : Riders m o (r ∷ rs) → Riders m (level_from o (kind_at r)) rs
-  riders-tail h before behind x c e code k =
-      let g = h (r ∷ before) behind x c (ap (λ l. r ∷ l) e) code k in
+  riders-tail h before behind x c v e code k =
+      let g = h (r ∷ before) behind x c v (ap (λ l. r ∷ l) e) code k in
       (sym (level_on o (kind_at r) (last_kind before)) ∙ g.0, g.1)
 
 riders-none : (m : Meaning) (o : Option Level) → Riders m o []
-riders-none m o [] behind x c e code k = let z : ◌≡◌ {A = ℕ} 0 1 = cc in absurd (omega arith)
-riders-none m o (b ∷ bs) behind x c e code k = let z : ◌≡◌ {A = ℕ} 0 1 = cc in absurd (omega arith)
+riders-none m o [] behind x c v e code k = let z : ◌≡◌ {A = ℕ} 0 1 = cc in absurd (omega arith)
+riders-none m o (b ∷ bs) behind x c v e code k = let z : ◌≡◌ {A = ℕ} 0 1 = cc in absurd (omega arith)
 
 -- a core record, or an unknown one, is no rider
-not_known : (m : Meaning) (r : List ℕ) (c d : ℕ) → code_in r ≡ Some c → m.level c ≡ level.Unknown → code_in r ≡ Some d → known (m.level d) ≡ true → ⊥
-not_known m r c d e u f k =
+not_known : (m : Meaning) (r : List ℕ) (c d : ℕ) (v : Level) → code_in r ≡ Some c → m.level c ≡ None → code_in r ≡ Some d → m.level d ≡ Some v → ⊥
+not_known m r c d v e u f k =
     let same : c ≡ d = let g : Some c ≡ Some d = sym e ∙ f in cc in
-    false≢true (sym (ap known u) ∙ subst (λ x. known (m.level x) ≡ true) (sym same) k)
+    let g : None ≡ Some v = sym u ∙ ap m.level same ∙ k in let z : ◌≡◌ {A = ℕ} 0 1 = cc in absurd (omega arith)
 
 -- From records with their roles to the rules.
 
 pub along_coded : (m : Meaning) (o : Option Level) (rs : List (List ℕ)) (ls : List Role) → Along m o rs ls → Coded rs
 along_coded m _ _ _ (none o) = tt
 along_coded m _ _ _ (core o c k f r rs ls e g u q w a) = (ap is_some e, along_coded m _ rs ls a)
-along_coded m _ _ _ (rider o c r rs ls e g k l q w a) = (ap is_some e, along_coded m _ rs ls a)
+along_coded m _ _ _ (rider o c v r rs ls e g k l q w a) = (ap is_some e, along_coded m _ rs ls a)
 along_coded m _ _ _ (unknown o c r rs ls e g u w a) = (ap is_some e, along_coded m _ rs ls a)
 
 pub along_cores : (m : Meaning) (o : Option Level) (rs : List (List ℕ)) (ls : List Role) → Along m o rs ls → cores rs ≡ map Ok (map leaf_of ls)
@@ -98,19 +97,19 @@ along_cores m _ _ _ (core o c k f r rs ls e g u q w a) =
     ap (λ y. core_then y r (cores rs)) g
     ∙ (λ i. then (q i) (λ c. Ok (leaf c (named k r))) ∷ along_cores m _ rs ls a i)
     ∙ ap (λ (l : Read Core). Ok l ∷ map Ok (map leaf_of ls)) (sym (leaf_role (leaf f (named k r))))
-along_cores m _ _ _ (rider o c r rs ls e g k l q w a) = ap (λ y. core_then y r (cores rs)) g ∙ along_cores m _ rs ls a
+along_cores m _ _ _ (rider o c v r rs ls e g k l q w a) = ap (λ y. core_then y r (cores rs)) g ∙ along_cores m _ rs ls a
 along_cores m _ _ _ (unknown o c r rs ls e g u w a) = ap (λ y. core_then y r (cores rs)) g ∙ along_cores m _ rs ls a
 
 pub along_riders : (m : Meaning) (o : Option Level) (rs : List (List ℕ)) (ls : List Role) → Along m o rs ls → Riders m o rs
 along_riders m _ _ _ (none o) = riders-none m o
 along_riders m _ _ _ (core o c k f r rs ls e g u q w a) =
-    riders_cons m o r rs (λ d h j. absurd (not_known m r c d e u h j)) (subst (λ y. Riders m (level_from o y) rs) (sym g) (along_riders m _ rs ls a))
-along_riders m _ _ _ (rider o c r rs ls e g k l q w a) =
+    riders_cons m o r rs (λ d y h j. absurd (not_known m r c d y e u h j)) (subst (λ y. Riders m (level_from o y) rs) (sym g) (along_riders m _ rs ls a))
+along_riders m _ _ _ (rider o c v r rs ls e g k l q w a) =
     riders_cons m o r rs
-    (λ d h j. let same : c ≡ d = let p : Some c ≡ Some d = sym e ∙ h in cc in (l ∙ ap (λ x. Some (m.level x)) same, subst (λ x. m.formed x r ≡ true) same q))
+    (λ d y h j. let same : c ≡ d = let p : Some c ≡ Some d = sym e ∙ h in cc in (l ∙ sym k ∙ ap m.level same ∙ j, subst (λ x. m.formed x r ≡ true) same q))
     (subst (λ y. Riders m (level_from o y) rs) (sym g) (along_riders m _ rs ls a))
 along_riders m _ _ _ (unknown o c r rs ls e g u w a) =
-    riders_cons m o r rs (λ d h j. absurd (not_known m r c d e u h j)) (subst (λ y. Riders m (level_from o y) rs) (sym g) (along_riders m _ rs ls a))
+    riders_cons m o r rs (λ d y h j. absurd (not_known m r c d y e u h j)) (subst (λ y. Riders m (level_from o y) rs) (sym g) (along_riders m _ rs ls a))
 
 -- And back.
 
@@ -119,7 +118,7 @@ then_ok (Ok x) go y h = (x, refl, h)
 then_ok (Err e) go y h = let z : ◌≡◌ {A = ℕ} 0 1 = cc in absurd (omega arith)
 
 module _ (m : Meaning) (o : Option Level) (r : List ℕ) (rs : List (List ℕ)) where
-  along_core : (c : ℕ) (k : Kind) (xs : List (Read Core)) → code_in r ≡ Some c → kind_at r ≡ Some k → m.level c ≡ level.Unknown → class_of m r ≡ class.Core k (read_core k (between 2 (length r) r))
+  along_core : (c : ℕ) (k : Kind) (xs : List (Read Core)) → code_in r ≡ Some c → kind_at r ≡ Some k → m.level c ≡ None → class_of m r ≡ class.Core k (read_core k (between 2 (length r) r))
       → ((ys : List (Read Core)) → cores rs ≡ map Ok ys → Along m (level_after k) rs (map role ys)) → read_by k r ∷ cores rs ≡ map Ok xs → Along m o (r ∷ rs) (map role xs)
   along_core c k [] e g u w go h = let z : ◌≡◌ {A = ℕ} 0 1 = cc in absurd (omega arith)
   along_core c k (x ∷ xs) e g u w go h =
@@ -134,9 +133,9 @@ module _ (m : Meaning) (o : Option Level) (r : List ℕ) (rs : List (List ℕ)) 
   along_by _ xs w (classes.bad e) h q s go = absurd (false≢true (sym (ap is_some e) ∙ h))
   along_by _ xs w (classes.core c k e g u) h q s go =
       along_core c k xs e g u w (λ ys p. subst (λ y. Along m (level_from o y) rs (map role ys)) g (go ys p)) (sym (ap (λ y. core_then y r (cores rs)) g) ∙ q)
-  along_by _ xs w (classes.rider c e g k) h q s go =
-      let here = s [] rs r c refl e k in
-      rider o c r rs (map role xs) e g k here.0 here.1 w (subst (λ y. Along m (level_from o y) rs (map role xs)) g (go xs (sym (ap (λ y. core_then y r (cores rs)) g) ∙ q)))
+  along_by _ xs w (classes.rider c v e g k) h q s go =
+      let here = s [] rs r c v refl e k in
+      rider o c v r rs (map role xs) e g k here.0 here.1 w (subst (λ y. Along m (level_from o y) rs (map role xs)) g (go xs (sym (ap (λ y. core_then y r (cores rs)) g) ∙ q)))
   along_by _ xs w (classes.unknown c e g u) h q s go =
       unknown o c r rs (map role xs) e g u w (subst (λ y. Along m (level_from o y) rs (map role xs)) g (go xs (sym (ap (λ y. core_then y r (cores rs)) g) ∙ q)))
 

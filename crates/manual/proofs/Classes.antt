@@ -1,26 +1,25 @@
 -- What the class of a record says of the record.
-use Rattle.std.proofs.Common.{◌≡◌, ℕ, Bool, true, false, cond, eqb, List, length, Some, None, Option, sym, refl, ap, ◌∙◌, subst, arith}
+use Rattle.std.proofs.Common.{◌≡◌, ℕ, Bool, true, false, cond, eqb, List, length, Some, None, Option, sym, refl, ap, ◌∙◌, arith}
 use Rattle.std.specs.List.{between}
 use Rattle.std.proofs.lemmas.Bool.{eqb-true}
 use Rattle.field.specs.Chains.{and_then}
 use Rattle.record.specs.declared.kinds.Kind.{Kind}
 use Rattle.record.specs.declared.kinds.Kind.TheVariants as kind
 use Rattle.record.specs.declared.editions.Level.{Level}
-use Rattle.record.specs.declared.editions.Level.TheVariants as level
 use Rattle.record.specs.declared.classes.Class.{Class}
 use Rattle.record.specs.declared.classes.Class.TheVariants as class
 use Rattle.record.specs.Kinds.{code_of, kind_of}
 use Rattle.record.specs.Layouts.{read_core}
 use Rattle.record.specs.Classes.{by_level, class_by, class_in, code_in, class_of}
-use Rattle.record.specs.Editions.{Meaning, known}
+use Rattle.record.specs.Editions.{Meaning}
 use Rattle.record.specs.Laws.{kind_at}
 
 -- what a record of a class is
 pub data Seen (m : Meaning) (r : List ℕ) : Class → Type 0 where
   bad : code_in r ≡ None → Seen m r class.BadCode
-  core : (c : ℕ) (k : Kind) → code_in r ≡ Some c → kind_at r ≡ Some k → m.level c ≡ level.Unknown → Seen m r (class.Core k (read_core k (between 2 (length r) r)))
-  rider : (c : ℕ) → code_in r ≡ Some c → kind_at r ≡ None → known (m.level c) ≡ true → Seen m r (class.Rider (record { code = c; level = m.level c; formed = m.formed c r }))
-  unknown : (c : ℕ) → code_in r ≡ Some c → kind_at r ≡ None → m.level c ≡ level.Unknown → Seen m r class.Unknown
+  core : (c : ℕ) (k : Kind) → code_in r ≡ Some c → kind_at r ≡ Some k → m.level c ≡ None → Seen m r (class.Core k (read_core k (between 2 (length r) r)))
+  rider : (c : ℕ) (v : Level) → code_in r ≡ Some c → kind_at r ≡ None → m.level c ≡ Some v → Seen m r (class.Rider (record { code = c; level = v; formed = m.formed c r }))
+  unknown : (c : ℕ) → code_in r ≡ Some c → kind_at r ≡ None → m.level c ≡ None → Seen m r class.Unknown
 
 -- a kind that is found by a code has that code
 module _ (c : ℕ) (k : Kind) where
@@ -38,11 +37,9 @@ module _ (c : ℕ) (k : Kind) where
       (or_else kind.CompanyNumber _ (or_else kind.End None (λ e. let z : ◌≡◌ {A = ℕ} 0 1 = cc in absurd (omega arith))))))))))))))
 
 module _ (m : Meaning) (r : List ℕ) (c : ℕ) (e : code_in r ≡ Some c) where
-  seen_level : (v : Level) → m.level c ≡ v → kind_at r ≡ None → Seen m r (by_level v c (m.formed c r))
-  seen_level level.Unknown h n = unknown c e n h
-  seen_level level.File h n = subst (λ (v : Level). Seen m r (class.Rider (record { code = c; level = v; formed = m.formed c r }))) h (rider c e n (ap known h))
-  seen_level level.Section h n = subst (λ (v : Level). Seen m r (class.Rider (record { code = c; level = v; formed = m.formed c r }))) h (rider c e n (ap known h))
-  seen_level level.Item h n = subst (λ (v : Level). Seen m r (class.Rider (record { code = c; level = v; formed = m.formed c r }))) h (rider c e n (ap known h))
+  seen_level : (l : Option Level) → m.level c ≡ l → kind_at r ≡ None → Seen m r (by_level l c (m.formed c r))
+  seen_level None h n = unknown c e n h
+  seen_level (Some v) h n = rider c v e n h
 
   seen_kind : (o : Option Kind) → kind_of c ≡ o → Seen m r (class_by m c o r)
   seen_kind None h = seen_level (m.level c) refl (ap (λ o. and_then o kind_of) e ∙ h)

@@ -4,7 +4,6 @@ use Rattle.std.proofs.lemmas.Bool.{true≢false}
 use Rattle.record.specs.declared.kinds.Kind.{Kind}
 use Rattle.record.specs.declared.fields.End.{End}
 use Rattle.record.specs.declared.editions.Level.{Level}
-use Rattle.record.specs.declared.editions.Level.TheVariants as level
 use Rattle.record.specs.declared.classes.Rider.{Rider}
 use Rattle.record.specs.declared.classes.Class.{Class}
 use Rattle.record.specs.declared.classes.Class.TheVariants as class
@@ -23,11 +22,9 @@ data Bared : Class → Class → Type 0 where
   same : (c : Class) → Bared c c
   rider : (x : Rider) → Bared (class.Rider x) class.Unknown
 
-bared_level : (v : Level) (c : ℕ) (formed : Bool) → Bared (by_level v c formed) class.Unknown
-bared_level level.Unknown c formed = same class.Unknown
-bared_level level.File c formed = rider (record { code = c; level = level.File; formed = formed })
-bared_level level.Section c formed = rider (record { code = c; level = level.Section; formed = formed })
-bared_level level.Item c formed = rider (record { code = c; level = level.Item; formed = formed })
+bared_level : (l : Option Level) (c : ℕ) (formed : Bool) → Bared (by_level l c formed) class.Unknown
+bared_level None c formed = same class.Unknown
+bared_level (Some v) c formed = rider (record { code = c; level = v; formed = formed })
 
 module _ (m : Meaning) (line : List ℕ) where
   bared_kind : (c : ℕ) (o : Option Kind) → Bared (class_by m c o line) (class_by bare c o line)

@@ -68,19 +68,16 @@ begun_behind (end x) = refl
 
 -- the three tests of a level
 the_file : (v : Level) → is_file v ≡ true → level.File ≡ v
-the_file level.Unknown h = absurd (false≢true h)
 the_file level.File h = refl
 the_file level.Section h = absurd (false≢true h)
 the_file level.Item h = absurd (false≢true h)
 
 the_section : (v : Level) → is_section v ≡ true → level.Section ≡ v
-the_section level.Unknown h = absurd (false≢true h)
 the_section level.File h = absurd (false≢true h)
 the_section level.Section h = refl
 the_section level.Item h = absurd (false≢true h)
 
 the_item : (v : Level) → is_item v ≡ true → level.Item ≡ v
-the_item level.Unknown h = absurd (false≢true h)
 the_item level.File h = absurd (false≢true h)
 the_item level.Section h = absurd (false≢true h)
 the_item level.Item h = refl
@@ -151,7 +148,7 @@ module _ (cap : ℕ) (m : Meaning) (r : List ℕ) (ss : List Slot) (n : ℕ) (s 
         ready = λ h. ready;
       }
 
-  over-core : (c : ℕ) (k : Kind) (f : Core) → code_in r ≡ Some c → kind_at r ≡ Some k → m.level c ≡ level.Unknown → read_core k (between 2 (length r) r) ≡ Ok f → class_of m r ≡ class.Core k (Ok f)
+  over-core : (c : ℕ) (k : Kind) (f : Core) → code_in r ≡ Some c → kind_at r ≡ Some k → m.level c ≡ None → read_core k (between 2 (length r) r) ≡ Ok f → class_of m r ≡ class.Core k (Ok f)
       → (t : State) → step (judging cap) s (class.Core k (Ok f)) ≡ Ok t → judge (judging cap) m (suc (suc n)) t ss ≡ Ok e → Accepted cap m n s (whole r ∷ ss) e
   over-core c k f code kind beyond read is t h q =
       let mode : Mode = judging cap in
@@ -173,7 +170,7 @@ module _ (cap : ℕ) (m : Meaning) (r : List ℕ) (ss : List Slot) (n : ℕ) (s 
         ready = λ h. let g : None ≡ Some k = sym h ∙ kind in let z : ◌≡◌ {A = ℕ} 0 1 = cc in absurd (omega arith);
       }
 
-  over-read : (c : ℕ) (k : Kind) (read : Result Core Field) → code_in r ≡ Some c → kind_at r ≡ Some k → m.level c ≡ level.Unknown → read_core k (between 2 (length r) r) ≡ read → class_of m r ≡ class.Core k read
+  over-read : (c : ℕ) (k : Kind) (read : Result Core Field) → code_in r ≡ Some c → kind_at r ≡ Some k → m.level c ≡ None → read_core k (between 2 (length r) r) ≡ read → class_of m r ≡ class.Core k read
       → (t : State) → step (judging cap) s (class.Core k read) ≡ Ok t → judge (judging cap) m (suc (suc n)) t ss ≡ Ok e → Accepted cap m n s (whole r ∷ ss) e
   over-read c k (Ok f) code kind beyond read is t h q = over-core c k f code kind beyond read is t h q
   over-read c k (Err f) code kind beyond read is t h q = absurd (false≢true (passed (core_tests (judging cap) s k (Err f)) s t h).0.1.0)
@@ -181,9 +178,9 @@ module _ (cap : ℕ) (m : Meaning) (r : List ℕ) (ss : List Slot) (n : ℕ) (s 
   over : (x : Class) → class_of m r ≡ x → Seen m r x → (t : State) → step (judging cap) s x ≡ Ok t → judge (judging cap) m (suc (suc n)) t ss ≡ Ok e → Accepted cap m n s (whole r ∷ ss) e
   over _ is (classes.bad code) t h q = absurd (false≢true (passed (tests (judging cap) s class.BadCode) s t h).0.0)
   over _ is (classes.core c k code kind beyond) t h q = over-read c k (read_core k (between 2 (length r) r)) code kind beyond refl is t h q
-  over _ is (classes.rider c code kind knows) t h q =
-      let p = passed (tests (judging cap) s (class.Rider (record { code = c; level = m.level c; formed = m.formed c r }))) s t h in
-      kept (λ rs ls a. rider_next (level_at s.place) c r rs ls code kind knows (seated s.place (m.level c) p.0.1.0) p.0.1.1.0 is a) p.0.0 (subst (λ u. judge (judging cap) m (suc (suc n)) u ss ≡ Ok e) (sym p.1) q)
+  over _ is (classes.rider c v code kind knows) t h q =
+      let p = passed (tests (judging cap) s (class.Rider (record { code = c; level = v; formed = m.formed c r }))) s t h in
+      kept (λ rs ls a. rider_next (level_at s.place) c v r rs ls code kind knows (seated s.place v p.0.1.0) p.0.1.1.0 is a) p.0.0 (subst (λ u. judge (judging cap) m (suc (suc n)) u ss ≡ Ok e) (sym p.1) q)
   over _ is (classes.unknown c code kind beyond) t h q =
       let p = passed (tests (judging cap) s class.Unknown) s t h in
       kept (λ rs ls a. unknown_next (level_at s.place) c r rs ls code kind beyond is a) p.0.0 (subst (λ u. judge (judging cap) m (suc (suc n)) u ss ≡ Ok e) (sym p.1) q)
@@ -237,9 +234,9 @@ module _ (cap : ℕ) (m : Meaning) (e : End) where
       let next : moved mode s k f ≡ behind mode s l = ap (λ j. moved mode s j f) (sym same) ∙ same_after mode n s f (named k r) small bound modest in
       on_judge n s (behind mode s l) r (class.Core k (Ok f)) rs (omega arith) is (passing (core_tests mode s k (Ok f)) (moved mode s k f) passes ∙ ap Ok next)
       ∙ ok_judge _ rs ls a (suc n) (behind mode s l) (level_behind f (named k r) ∙ ap level_after same) (ready_begun (behind mode s l) rs (begun_behind l)) (omega arith) (bounded_on mode n s l bound modest) run.1 (ends_on s.counts l ls e ends)
-  ok_judge _ _ _ (rider_next o c r rs ls code kind knows at formed is a) n s lv ready few bound run ends =
-      let x : Class = class.Rider (record { code = c; level = m.level c; formed = m.formed c r }) in
-      on_judge n s s r x rs (omega arith) is (passing (tests (judging cap) s x) s (ready kind, (seats s.place (m.level c) (lv ∙ at), (formed, tt))))
+  ok_judge _ _ _ (rider_next o c v r rs ls code kind knows at formed is a) n s lv ready few bound run ends =
+      let x : Class = class.Rider (record { code = c; level = v; formed = m.formed c r }) in
+      on_judge n s s r x rs (omega arith) is (passing (tests (judging cap) s x) s (ready kind, (seats s.place v (lv ∙ at), (formed, tt))))
       ∙ ok_judge _ rs ls a (suc n) s lv (ready_begun s rs (ready kind)) (omega arith) (bounded_kept n s bound) run ends
   ok_judge _ _ _ (unknown_next o c r rs ls code kind beyond is a) n s lv ready few bound run ends =
       on_judge n s s r class.Unknown rs (omega arith) is (passing (tests (judging cap) s class.Unknown) s (ready kind, tt))

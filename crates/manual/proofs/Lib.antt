@@ -19,4 +19,3 @@ pub mod Tables
 pub mod TooShort
 pub mod Trees
 pub mod Unique
-pub mod Walking

@@ -188,7 +188,7 @@ module _ (rows : ℕ) (s : State) (ps : List ℕ) (h : Held rows s.section.rows 
     class_turn : (c : Class) → Seen m r c → Turn rows (payers_by ps (kind_at r) r) (step (judging rows) s c) (step (judging (suc rows)) s c)
     class_turn _ (Seen.bad e) = stopped _ tt
     class_turn _ (Seen.core c k e is l) = by_kind (Some k) _ _ is (read_turn k (between 2 (used k) r) (read_core k (between 2 (length r) r)))
-    class_turn _ (Seen.rider c e is l) = by_kind None _ _ is (calm (class.Rider (record { code = c; level = m.level c; formed = m.formed c r })) ps h (tt, (tt, (tt, tt))))
+    class_turn _ (Seen.rider c v e is l) = by_kind None _ _ is (calm (class.Rider (record { code = c; level = v; formed = m.formed c r })) ps h (tt, (tt, (tt, tt))))
     class_turn _ (Seen.unknown c e is l) = by_kind None _ _ is (calm class.Unknown ps h (tt, tt))
 
 -- All slots before both judges.

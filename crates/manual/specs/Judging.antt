@@ -1,6 +1,6 @@
 -- The judge of a file: a state, and what one record after another does to it.
 -- Numbers are as a u64 holds them (capped).
-use Rattle.std.specs.Prelude.{ℕ, suc, Bool, true, false, cond, not, ◌&&◌, ◌||◌, List, [], ◌∷◌, length, take, Some, None, Ok, Err, Option, Result, ◌==◌, nat_eq, nat_le, nat_lt}
+use Rattle.std.specs.Prelude.{ℕ, suc, Bool, true, false, cond, not, ◌&&◌, ◌||◌, List, [], ◌∷◌, length, Ok, Err, Result, ◌==◌, nat_eq, nat_le, nat_lt}
 use Rattle.field.specs.declared.money.Currency.{Currency}
 use Rattle.field.specs.declared.money.Currency.TheVariants.{Sek, Eur}
 use Rattle.record.specs.declared.kinds.Kind.{Kind}
@@ -11,7 +11,6 @@ use Rattle.record.specs.declared.fields.Transfer.{Transfer}
 use Rattle.record.specs.declared.fields.Deposit.{Deposit}
 use Rattle.record.specs.declared.fields.End.{End}
 use Rattle.record.specs.declared.fields.Field.{Field}
-use Rattle.record.specs.declared.lines.LineEnd.{LineEnd}
 use Rattle.record.specs.declared.editions.Level.{Level}
 use Rattle.record.specs.declared.editions.Level.TheVariants as level
 use Rattle.record.specs.declared.classes.Class.{Class}
@@ -121,19 +120,16 @@ begun place.Between = true
 begun place.Done = true
 
 abbrev pub is_file : Level → Bool
-is_file level.Unknown = false
 is_file level.File = true
 is_file level.Section = false
 is_file level.Item = false
 
 abbrev pub is_section : Level → Bool
-is_section level.Unknown = false
 is_section level.File = false
 is_section level.Section = true
 is_section level.Item = false
 
 abbrev pub is_item : Level → Bool
-is_item level.Unknown = false
 is_item level.File = false
 is_item level.Section = false
 is_item level.Item = true
@@ -342,11 +338,6 @@ then_on (Err c) n go = at_record n c
 abbrev pub slot_step : Mode → Meaning → State → Slot → Result State Cause
 slot_step mode m s broken = Err cause.Broken
 slot_step mode m s (whole r) = step mode s (class_of m r)
-
--- the same of the first line of the bytes, given how it ends if it is a whole record
-abbrev pub line_step : Mode → Meaning → State → List ℕ → Option LineEnd → Result State Cause
-line_step mode m s bs None = Err cause.Broken
-line_step mode m s bs (Some end) = step mode s (class_of m (take 80 bs))
 
 -- the slots from record number n on: at most 50,000 records, and an end record before the end
 abbrev pub judge : Mode → Meaning → ℕ → State → List Slot → Result End FileFault

@@ -16,7 +16,7 @@ use Rattle.record.specs.declared.lines.LineEnd.{LineEnd}
 use Rattle.record.specs.declared.lines.LineEnd.TheVariants.{Lf, CrLf}
 use Rattle.record.specs.declared.editions.Level.{Level}
 use Rattle.record.specs.declared.editions.Level.TheVariants as level
-use Rattle.record.specs.Editions.{Meaning, Whole, known}
+use Rattle.record.specs.Editions.{Meaning, Whole}
 use Rattle.record.specs.Layouts.{read_core}
 use Rattle.record.specs.Reserve.{used}
 use Rattle.record.specs.Classes.{code_in}
@@ -229,10 +229,10 @@ level_after kind.AddressTwo = Some level.Item
 level_after kind.CompanyNumber = Some level.Item
 level_after kind.End = None
 
--- a record of a code that the edition knows, behind these records
-pub record RiderStands (m : Meaning) (c : ℕ) (before : List (List ℕ)) (r : List ℕ) : Type 0 where
+-- a record of a code that the edition knows, with this level, behind these records
+pub record RiderStands (m : Meaning) (c : ℕ) (l : Level) (before : List (List ℕ)) (r : List ℕ) : Type 0 where
   -- it stands where its level says
-  pub level : and_then (last_kind before) level_after ≡ Some (m.level c)
+  pub level : and_then (last_kind before) level_after ≡ Some l
   -- and is well formed
   pub formed : m.formed c r ≡ true
 
@@ -256,5 +256,5 @@ pub record Follows (m : Meaning) (bytes : List ℕ) (r : Reading) : Type 0 where
   -- the end record has the file's counts
   pub counted : CountsStand r.sections r.end.fields
   -- each rider stands where its level says and is well formed, none behind the end; unknown records may stand anywhere
-  pub riders : (before behind : List (List ℕ)) (x : List ℕ) (c : ℕ) → records lines ≡ before ++ x ∷ behind
-      → code_in x ≡ Some c → known (m.level c) ≡ true → RiderStands m c before x
+  pub riders : (before behind : List (List ℕ)) (x : List ℕ) (c : ℕ) (l : Level) → records lines ≡ before ++ x ∷ behind
+      → code_in x ≡ Some c → m.level c ≡ Some l → RiderStands m c l before x

@@ -1,12 +1,13 @@
 ghost use Rattle.std.specs.Prelude.{◌≡◌};
-ghost use Rattle.manual.specs.declared.faults.Cause.TheVariants.{Unreadable};
+ghost use Rattle.manual.specs.declared.faults.Cause.TheVariants.{Unreadable, NoPlace};
 ghost use Rattle.manual.specs.Refusals.{file_refusal};
 
 use record::RecordFault;
-use refusal::{Layer, Place, Refusal};
+use refusal::{Layer, Place, Reason, Refusal};
+use sums::NoRow;
 
 // Why a file is refused at a record.
-#[derive(Clone, Copy)]
+#[derive(Clone, Copy, Debug, PartialEq, Eq)]
 pub enum Cause {
     // bytes are left, and no whole record
     Broken,
@@ -42,35 +43,45 @@ impl From<RecordFault> for Cause {
     }
 }
 
+impl From<NoRow> for Cause {
+    ghost from_gives = { λ _ r. r ≡ NoPlace };
+
+    fn from(_e: NoRow) -> Cause {
+        Cause::NoPlace
+    }
+}
+
 // A file refused at the record with this number, counted from 1.
-#[derive(Clone, Copy)]
+#[derive(Clone, Copy, Debug, PartialEq, Eq)]
 pub struct FileFault {
     pub number: usize,
     pub cause: Cause,
 }
 
 // What the refusal tells.
-pub fn refusal_of_file(fault: FileFault) -> Refusal
-    ensures { result ≡ file_refusal fault }
-{
-    let number = match fault.cause {
-        Cause::Unreadable(e) => return record::refusal(e, fault.number),
-        Cause::Broken => 1,
-        Cause::Order => 3,
-        Cause::UnlikeItem => 5,
-        Cause::Information => 6,
-        Cause::NoPlace => 7,
-        Cause::PayerOwes => 8,
-        Cause::Deposit => 9,
-        Cause::Counts => 10,
-        Cause::TooMany => 11,
-        Cause::Unfinished => 12,
-        Cause::RiderIllFormed => 13,
-        Cause::RiderLevel => 14,
-    };
-    Refusal {
-        number,
-        layer: Layer::File,
-        place: Place::Record(fault.number),
+impl From<FileFault> for Refusal {
+    ghost from_gives = { λ fault r. r ≡ file_refusal fault };
+
+    fn from(fault: FileFault) -> Refusal {
+        let reason = match fault.cause {
+            Cause::Unreadable(e) => return record::refusal(e, fault.number),
+            Cause::Broken => Reason::BrokenRecord,
+            Cause::Order => Reason::OutOfOrder,
+            Cause::UnlikeItem => Reason::UnlikeItem,
+            Cause::Information => Reason::TooMuchInformation,
+            Cause::NoPlace => Reason::NoPlaceForPayer,
+            Cause::PayerOwes => Reason::PayerOwes,
+            Cause::Deposit => Reason::DepositDisagrees,
+            Cause::Counts => Reason::CountsDisagree,
+            Cause::TooMany => Reason::TooManyRecords,
+            Cause::Unfinished => Reason::Unfinished,
+            Cause::RiderIllFormed => Reason::RiderIllFormed,
+            Cause::RiderLevel => Reason::RiderAtWrongLevel,
+        };
+        Refusal {
+            reason,
+            layer: Layer::File,
+            place: Some(Place::Record(fault.number)),
+        }
     }
 }

@@ -6,10 +6,11 @@ ghost use Rattle.manual.specs.Laws.{CheckLaws};
 mod faults;
 mod places;
 
-pub use faults::{Cause, FileFault, refusal_of_file};
-pub use places::{Place, Rules, Stage};
+pub use faults::{Cause, FileFault};
+pub use places::{Place, Stage};
 
 // What holds of checking any file, proved once; there is nothing to run.
+#[tactic(auto, using(crate::proofs::CheckLaws::laws))]
 pub fn check_laws()
     ensures { CheckLaws }
 {}

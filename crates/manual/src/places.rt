@@ -1,5 +1,5 @@
 // How far the last core record has brought an item.
-#[derive(Clone, Copy)]
+#[derive(Clone, Copy, Debug, PartialEq, Eq)]
 pub enum Stage {
     // payment, deduction or extra reference
     Head,
@@ -12,7 +12,7 @@ pub enum Stage {
 }
 
 // Where in a file the last core record has brought it.
-#[derive(Clone, Copy)]
+#[derive(Clone, Copy, Debug, PartialEq, Eq)]
 pub enum Place {
     // before the start record
     Fresh,
@@ -26,11 +26,4 @@ pub enum Place {
     Between,
     // behind the end record
     Done,
-}
-
-// What is judged of a file.
-#[derive(Clone, Copy)]
-pub struct Rules {
-    // whether a payer's deductions are compared with its payments, in the table that the caller lends
-    pub payers: bool,
 }

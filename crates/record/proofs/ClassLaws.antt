@@ -6,7 +6,6 @@ use Rattle.field.specs.Bytes.{is_text}
 use Rattle.field.specs.Chains.{and_then}
 use Rattle.record.specs.declared.kinds.Kind.{Kind}
 use Rattle.record.specs.declared.editions.Level.{Level}
-use Rattle.record.specs.declared.editions.Level.TheVariants as level
 use Rattle.record.specs.declared.classes.Class.TheVariants.{Core, Unknown}
 use Rattle.record.specs.Kinds.{kind_of}
 use Rattle.record.specs.Layouts.{read_core}
@@ -61,11 +60,9 @@ refilled m k line after w e run =
     (on.0, determined k line after (sym on.1) m w.0 on.0.0 e)
 
 -- an unknown record is one whose code has no core kind and no level
-by_level_same : (l : Level) (c : ℕ) (f g : Bool) → by_level l c f ≡ Unknown → by_level l c g ≡ Unknown
-by_level_same level.Unknown c f g e = refl
-by_level_same level.File c f g e = let z : ◌≡◌ {A = ℕ} 0 1 = cc in absurd (omega arith)
-by_level_same level.Section c f g e = let z : ◌≡◌ {A = ℕ} 0 1 = cc in absurd (omega arith)
-by_level_same level.Item c f g e = let z : ◌≡◌ {A = ℕ} 0 1 = cc in absurd (omega arith)
+by_level_same : (l : Option Level) (c : ℕ) (f g : Bool) → by_level l c f ≡ Unknown → by_level l c g ≡ Unknown
+by_level_same None c f g e = refl
+by_level_same (Some l) c f g e = let z : ◌≡◌ {A = ℕ} 0 1 = cc in absurd (omega arith)
 
 by_kind_same : (m : Meaning) (c : ℕ) (o : Option Kind) (line other : List ℕ) → class_by m c o line ≡ Unknown → class_by m c o other ≡ Unknown
 by_kind_same m c None line other e = by_level_same (m.level c) c (m.formed c line) (m.formed c other) e

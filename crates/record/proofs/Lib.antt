@@ -1,4 +1,3 @@
-pub mod Seeking
 pub mod Cutting
 pub mod Fronts
 pub mod Refilling

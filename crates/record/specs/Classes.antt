@@ -4,7 +4,6 @@ use Rattle.std.specs.List.{between}
 use Rattle.field.specs.Bytes.{is_digit}
 use Rattle.record.specs.declared.kinds.Kind.{Kind}
 use Rattle.record.specs.declared.editions.Level.{Level}
-use Rattle.record.specs.declared.editions.Level.TheVariants as level
 use Rattle.record.specs.declared.classes.Class.{Class}
 use Rattle.record.specs.declared.classes.Class.TheVariants.{BadCode, Core, Rider, Unknown}
 use Rattle.record.specs.Kinds.{kind_of}
@@ -19,12 +18,10 @@ code_at a b = cond (is_digit a && is_digit b) (Some ((a - 48) * 10 + (b - 48))) 
 abbrev pub code_in : List ℕ → Option ℕ
 code_in line = code_at (slice_index line 0) (slice_index line 1)
 
--- a record of a code with this level: unknown, or a rider
-abbrev pub by_level : Level → ℕ → Bool → Class
-by_level level.Unknown c formed = Unknown
-by_level level.File c formed = Rider (record { code = c; level = level.File; formed = formed })
-by_level level.Section c formed = Rider (record { code = c; level = level.Section; formed = formed })
-by_level level.Item c formed = Rider (record { code = c; level = level.Item; formed = formed })
+-- a record of a code with this level, or without one: a rider, or unknown
+abbrev pub by_level : Option Level → ℕ → Bool → Class
+by_level None c formed = Unknown
+by_level (Some l) c formed = Rider (record { code = c; level = l; formed = formed })
 
 -- a record whose code is not a core code
 abbrev pub outside : Meaning → ℕ → List ℕ → Class

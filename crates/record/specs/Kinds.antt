@@ -1,6 +1,7 @@
 -- The thirteen kinds of core record and their codes.
-use Rattle.std.specs.Prelude.{ℕ, cond, Some, None, Option, ◌==◌}
+use Rattle.std.specs.Prelude.{◌≡◌, ℕ, cond, Some, None, Option, Result, MatchResult, ◌==◌}
 use Rattle.record.specs.declared.kinds.Kind.{Kind}
+use Rattle.record.specs.declared.kinds.NotCore.{NotCore}
 use Rattle.record.specs.declared.kinds.Kind.TheVariants.{Start, Opening, Deposit, Payment, Deduction, ExtraReference, NegativeReference, Information, Name, AddressOne, AddressTwo, CompanyNumber, End}
 
 -- the code of each kind
@@ -35,3 +36,7 @@ kind_of c =
     (cond (c == 28) (Some AddressTwo)
     (cond (c == 29) (Some CompanyNumber)
     (cond (c == 70) (Some End) None))))))))))))
+
+-- the answer is the kind with this code, or that the code is no core code
+abbrev pub IsKindOf : ℕ → Result Kind NotCore → Type 0
+IsKindOf c r = MatchResult r (λ k. kind_of c ≡ Some k) (λ e. (kind_of c ≡ None) × (e.0 ≡ c))

@@ -4,12 +4,12 @@ ghost use Rattle.record.specs.Laws.{ClassLaws};
 
 use crate::editions::{Edition, Level};
 use crate::fields::{Core, Field};
-use crate::kinds::{Kind, kind_of};
+use crate::kinds::Kind;
 use crate::layouts::read_core;
 use field::digit;
 
 // A record of a kind that its edition knows beyond the core.
-#[derive(Clone, Copy)]
+#[derive(Clone, Copy, Debug, PartialEq, Eq)]
 pub struct Rider {
     pub code: u8,
     pub level: Level,
@@ -17,7 +17,7 @@ pub struct Rider {
 }
 
 // All that is ever asked of a whole record.
-#[derive(Clone, Copy)]
+#[derive(Clone, Copy, Debug, PartialEq, Eq)]
 pub enum Class {
     // its code is not two digits
     BadCode,
@@ -45,8 +45,8 @@ fn beyond<E: Edition>(code: u8, line: &[u8], edition: &E) -> Class
     ensures { result ≡ outside (E.meaning edition.now) code line.now }
 {
     match edition.level(code) {
-        Level::Unknown => Class::Unknown,
-        level => Class::Rider(Rider {
+        None => Class::Unknown,
+        Some(level) => Class::Rider(Rider {
             code,
             level,
             formed: edition.is_formed(code, line),
@@ -55,6 +55,7 @@ fn beyond<E: Edition>(code: u8, line: &[u8], edition: &E) -> Class
 }
 
 // What holds of all classes, proved once; there is nothing to run.
+#[tactic(auto, using(crate::proofs::ClassLaws::laws))]
 fn class_laws()
     ensures { ClassLaws }
 {}
@@ -73,8 +74,8 @@ pub fn classify<E: Edition>(line: &[u8], edition: &E) -> Class
     let Some(code) = code(*a, *b) else {
         return Class::BadCode;
     };
-    match kind_of(code) {
-        Some(kind) => Class::Core(kind, read_core(kind, rest)),
-        None => beyond(code, line, edition),
+    match Kind::try_from(code) {
+        Ok(kind) => Class::Core(kind, read_core(kind, rest)),
+        Err(_) => beyond(code, line, edition),
     }
 }

@@ -1,23 +1,23 @@
-ghost use Rattle.std.specs.Prelude.{◌≡◌, ℕ, Bool, List, length};
+ghost use Rattle.std.specs.Prelude.{◌≡◌, ℕ, Bool, List, length, Option};
 ghost use Rattle.record.specs.Editions.{Meaning, bare, house, sought, formed_by};
 
 use field::{digits, read_date, texts};
 
 // Where a rider may stand: between sections, in a section before its first item, or in an item.
-#[derive(Clone, Copy)]
+#[derive(Clone, Copy, Debug, PartialEq, Eq)]
 pub enum Level {
-    Unknown,
     File,
     Section,
     Item,
 }
 
-// An edition knows record kinds beyond the core. Its meaning is two tables: the level of each code, and for a
-// known code which records are well formed. It knows no core code.
+// An edition knows record kinds beyond the core. Its meaning is two tables: the level of each code that it knows, and
+// which records of such a code are well formed. It knows no core code. A record comes as a slice of 80 bytes, not as an array,
+// by a rule of the project.
 pub trait Edition {
     ghost meaning: { Self → Meaning };
 
-    fn level(&self, code: u8) -> Level
+    fn level(&self, code: u8) -> Option<Level>
         ensures { result ≡ (meaning self.now).level code };
 
     fn is_formed(&self, code: u8, line: &[u8]) -> bool
@@ -26,14 +26,14 @@ pub trait Edition {
 }
 
 // The edition that knows nothing.
-#[derive(Clone, Copy)]
+#[derive(Clone, Copy, Debug, PartialEq, Eq)]
 pub struct Bare;
 
 impl Edition for Bare {
     ghost meaning = { λ _. bare };
 
-    fn level(&self, _code: u8) -> Level {
-        Level::Unknown
+    fn level(&self, _code: u8) -> Option<Level> {
+        None
     }
 
     fn is_formed(&self, _code: u8, _line: &[u8]) -> bool {
@@ -41,8 +41,8 @@ impl Edition for Bare {
     }
 }
 
-// What a house kind has behind its code.
-#[derive(Clone, Copy)]
+// What a house kind has behind its code; an enum and no closure, since the kinds are rows of a constant table.
+#[derive(Clone, Copy, Debug, PartialEq, Eq)]
 pub enum Form {
     // a date in positions 3 to 10
     Dated,
@@ -50,7 +50,7 @@ pub enum Form {
     Numbered,
 }
 
-#[derive(Clone, Copy)]
+#[derive(Clone, Copy, Debug, PartialEq, Eq)]
 pub struct HouseKind {
     pub code: u8,
     pub level: Level,
@@ -74,12 +74,7 @@ const HOUSE_KINDS: [HouseKind; 2] = [
 fn seek(kinds: &[HouseKind], code: u8) -> Option<HouseKind>
     ensures { result ≡ sought kinds.now code }
 {
-    for kind in kinds {
-        if kind.code == code {
-            return Some(*kind);
-        }
-    }
-    None
+    kinds.iter().find(|kind| kind.code == code).copied()
 }
 
 // Whether a record has this form, the rest being text.
@@ -94,23 +89,17 @@ fn has_form(form: Form, line: &[u8]) -> bool
 }
 
 // The edition of this house: kinds 40 and 41.
-#[derive(Clone, Copy)]
+#[derive(Clone, Copy, Debug, PartialEq, Eq)]
 pub struct House;
 
 impl Edition for House {
     ghost meaning = { λ _. house };
 
-    fn level(&self, code: u8) -> Level {
-        match seek(&HOUSE_KINDS, code) {
-            Some(kind) => kind.level,
-            None => Level::Unknown,
-        }
+    fn level(&self, code: u8) -> Option<Level> {
+        seek(&HOUSE_KINDS, code).map(|kind| kind.level)
     }
 
     fn is_formed(&self, code: u8, line: &[u8]) -> bool {
-        match seek(&HOUSE_KINDS, code) {
-            Some(kind) => has_form(kind.form, line),
-            None => false,
-        }
+        seek(&HOUSE_KINDS, code).is_some_and(|kind| has_form(kind.form, line))
     }
 }

@@ -4,10 +4,10 @@ ghost use Rattle.record.specs.Refusals.{sound as sound_term, fields_read, refusa
 
 use crate::classes::Class;
 use crate::fields::{Core, Field};
-use refusal::{Layer, Place, Refusal};
+use refusal::{Layer, Place, Reason, Refusal};
 
 // Why a whole record cannot be read by itself.
-#[derive(Clone, Copy)]
+#[derive(Clone, Copy, Debug, PartialEq, Eq)]
 pub enum RecordFault {
     // the code is not two digits
     Code,
@@ -41,16 +41,16 @@ pub fn sound(class: Class) -> Result<Class, RecordFault>
     }
 }
 
-// What the refusal tells, where the record has this number in its file.
+// What the refusal tells, where the record has this number in its file. It is no `From`, since the fault has not the number.
 pub fn refusal(fault: RecordFault, number: usize) -> Refusal
     ensures { result ≡ refusal_of number fault }
 {
     Refusal {
-        number: match fault {
-            RecordFault::Code => 2,
-            RecordFault::Layout(_) => 4,
+        reason: match fault {
+            RecordFault::Code => Reason::BadCode,
+            RecordFault::Layout(_) => Reason::BadField,
         },
         layer: Layer::File,
-        place: Place::Record(number),
+        place: Some(Place::Record(number)),
     }
 }

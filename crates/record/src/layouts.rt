@@ -1,5 +1,5 @@
 ghost use Rattle.std.specs.Prelude.{◌≡◌, ℕ, length};
-ghost use Rattle.record.specs.Layouts.{must, layout_name, mark_of, read_start, read_opening, transfer_of, read_payment, deduction_code, read_deduction, read_extra, deposit_type_of, read_deposit, read_end, read_core as core_term};
+ghost use Rattle.record.specs.Layouts.{must, layout_name, mark_of, read_start, read_opening, transfer_of, read_payment, deduction_code, read_deduction, read_extra, deposit_type_of, read_deposit, read_end, read_text, read_core as core_term};
 
 use crate::fields::{Core, Deposit, DepositType, End, Field, Opening, Start, TestMark, Transfer};
 use crate::kinds::Kind;
@@ -8,7 +8,8 @@ use field::{
     read_extra_reference, read_number, read_reference, read_time_stamp, texts,
 };
 
-// Each reader takes the 78 bytes behind the code: position p of the record is byte p - 3 of the rest.
+// Each reader takes the 78 bytes behind the code: position p of the record is byte p - 3 of the rest. It takes them as a
+// slice and asks for their length, since a rule of the project hands records and their parts on as slices.
 
 fn must(holds: bool, field: Field) -> Result<(), Field>
     ensures { result ≡ must holds field }
@@ -21,12 +22,7 @@ fn is_layout_name(part: &[u8]) -> bool
     requires { length part.now ≡ 20 }
     ensures { result ≡ layout_name part.now }
 {
-    part[0] == b'B'
-        && part[1] == b'G'
-        && part[2] == b'M'
-        && part[3] == b'A'
-        && part[4] == b'X'
-        && blanks(&part[5..20])
+    part.starts_with(b"BGMAX") && blanks(&part[5..20])
 }
 
 fn test_mark(b: u8) -> Option<TestMark>
@@ -159,6 +155,14 @@ fn end(rest: &[u8]) -> Result<End, Field>
     })
 }
 
+// A record of which only is asked that this part of it is text.
+fn words(part: &[u8], core: Core) -> Result<Core, Field>
+    ensures { result ≡ read_text core part.now }
+{
+    must(texts(part), Field::Text)?;
+    Ok(core)
+}
+
 // The fields of a record of this kind, or the first field that breaks its layout.
 pub fn read_core(kind: Kind, rest: &[u8]) -> Result<Core, Field>
     requires { length rest.now ≡ 78 }
@@ -172,22 +176,10 @@ pub fn read_core(kind: Kind, rest: &[u8]) -> Result<Core, Field>
         Kind::Deduction => Ok(Core::Deduction(deduction(rest)?)),
         Kind::ExtraReference => Ok(Core::ExtraReference(extra(rest)?)),
         Kind::NegativeReference => Ok(Core::NegativeReference(extra(rest)?)),
-        Kind::Information => {
-            must(texts(&rest[0..50]), Field::Text)?;
-            Ok(Core::Information)
-        }
-        Kind::Name => {
-            must(texts(&rest[0..70]), Field::Text)?;
-            Ok(Core::Name)
-        }
-        Kind::AddressOne => {
-            must(texts(&rest[0..44]), Field::Text)?;
-            Ok(Core::AddressOne)
-        }
-        Kind::AddressTwo => {
-            must(texts(&rest[0..72]), Field::Text)?;
-            Ok(Core::AddressTwo)
-        }
+        Kind::Information => words(&rest[0..50], Core::Information),
+        Kind::Name => words(&rest[0..70], Core::Name),
+        Kind::AddressOne => words(&rest[0..44], Core::AddressOne),
+        Kind::AddressTwo => words(&rest[0..72], Core::AddressTwo),
         Kind::CompanyNumber => {
             let number = read_number(&rest[0..12]).ok_or(Field::CompanyNumber)?;
             Ok(Core::CompanyNumber(number))

@@ -2,11 +2,11 @@ ghost use Rattle.std.specs.Prelude.{◌≡◌};
 ghost use Rattle.record.specs.Rows.{kind_in, bare_row, row_of};
 
 use crate::fields::Core;
-use crate::kinds::{Kind, code_of};
+use crate::kinds::Kind;
 use field::ReferenceForm;
 
 // What is shown of a record. What the record lacks is 0, and the form absent.
-#[derive(Clone, Copy)]
+#[derive(Clone, Copy, Debug, PartialEq, Eq)]
 pub struct Row {
     pub number: usize,
     pub code: u8,
@@ -19,23 +19,25 @@ pub struct Row {
 }
 
 // The kind of a core record.
-fn kind_in(core: Core) -> Kind
-    ensures { result ≡ kind_in core }
-{
-    match core {
-        Core::Start(_) => Kind::Start,
-        Core::Opening(_) => Kind::Opening,
-        Core::Deposit(_) => Kind::Deposit,
-        Core::Payment(_) => Kind::Payment,
-        Core::Deduction(_) => Kind::Deduction,
-        Core::ExtraReference(_) => Kind::ExtraReference,
-        Core::NegativeReference(_) => Kind::NegativeReference,
-        Core::Information => Kind::Information,
-        Core::Name => Kind::Name,
-        Core::AddressOne => Kind::AddressOne,
-        Core::AddressTwo => Kind::AddressTwo,
-        Core::CompanyNumber(_) => Kind::CompanyNumber,
-        Core::End(_) => Kind::End,
+impl From<Core> for Kind {
+    ghost from_gives = { λ core r. r ≡ kind_in core };
+
+    fn from(core: Core) -> Kind {
+        match core {
+            Core::Start(_) => Kind::Start,
+            Core::Opening(_) => Kind::Opening,
+            Core::Deposit(_) => Kind::Deposit,
+            Core::Payment(_) => Kind::Payment,
+            Core::Deduction(_) => Kind::Deduction,
+            Core::ExtraReference(_) => Kind::ExtraReference,
+            Core::NegativeReference(_) => Kind::NegativeReference,
+            Core::Information => Kind::Information,
+            Core::Name => Kind::Name,
+            Core::AddressOne => Kind::AddressOne,
+            Core::AddressTwo => Kind::AddressTwo,
+            Core::CompanyNumber(_) => Kind::CompanyNumber,
+            Core::End(_) => Kind::End,
+        }
     }
 }
 
@@ -57,7 +59,7 @@ fn bare_row(number: usize, code: u8) -> Row
 pub fn core_row(number: usize, core: Core) -> Row
     ensures { result ≡ row_of number core }
 {
-    let bare = bare_row(number, code_of(kind_in(core)));
+    let bare = bare_row(number, u8::from(Kind::from(core)));
     match core {
         Core::Opening(o) => Row {
             party: o.payee,

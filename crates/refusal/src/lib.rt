@@ -1,75 +1,218 @@
-// What every refusal tells: its number, the layer that refused, and the place; and how it is written for a person.
+//! What every refusal tells: its reason, the layer that refused, and the place; and how it is written for a person.
 #![tactic(auto)]
 
 ghost use Rattle.std.specs.Prelude.{◌≡◌};
 ghost use Rattle.refusal.specs.Causes.{cause_of};
+ghost use Rattle.refusal.specs.Reasons.{number_of, words_of, Names};
 
+use std::error::Error;
 use std::fmt;
 
-// The part of the product that refused.
-#[derive(Clone, Copy)]
+/// Why something was refused.
+#[derive(Clone, Copy, Debug, PartialEq, Eq)]
+pub enum Reason {
+    BrokenRecord,
+    BadCode,
+    OutOfOrder,
+    BadField,
+    UnlikeItem,
+    TooMuchInformation,
+    NoPlaceForPayer,
+    PayerOwes,
+    DepositDisagrees,
+    CountsDisagree,
+    TooManyRecords,
+    Unfinished,
+    RiderIllFormed,
+    RiderAtWrongLevel,
+    ShelfFull,
+    NoShelfRecord,
+    MarkedTest,
+    SameTimeStamp,
+    NoRoom,
+    NoEntry,
+    RowTableShort,
+    BalanceTableShort,
+    CopyBufferShort,
+    NoTrailer,
+    EntryUnreadable,
+    TrailerDisagrees,
+}
+
+impl Reason {
+    /// The number that stands for it.
+    pub fn number(self) -> u8
+        ensures { result ≡ number_of self }
+    {
+        match self {
+            Reason::BrokenRecord => 1,
+            Reason::BadCode => 2,
+            Reason::OutOfOrder => 3,
+            Reason::BadField => 4,
+            Reason::UnlikeItem => 5,
+            Reason::TooMuchInformation => 6,
+            Reason::NoPlaceForPayer => 7,
+            Reason::PayerOwes => 8,
+            Reason::DepositDisagrees => 9,
+            Reason::CountsDisagree => 10,
+            Reason::TooManyRecords => 11,
+            Reason::Unfinished => 12,
+            Reason::RiderIllFormed => 13,
+            Reason::RiderAtWrongLevel => 14,
+            Reason::ShelfFull => 15,
+            Reason::NoShelfRecord => 16,
+            Reason::MarkedTest => 20,
+            Reason::SameTimeStamp => 21,
+            Reason::NoRoom => 22,
+            Reason::NoEntry => 24,
+            Reason::RowTableShort => 25,
+            Reason::BalanceTableShort => 26,
+            Reason::CopyBufferShort => 27,
+            Reason::NoTrailer => 30,
+            Reason::EntryUnreadable => 31,
+            Reason::TrailerDisagrees => 32,
+        }
+    }
+
+    /// It in words.
+    pub fn words(self) -> &'static str
+        ensures { result.now ≡ words_of self }
+    {
+        match self {
+            Reason::BrokenRecord => "no whole record",
+            Reason::BadCode => "code not two digits",
+            Reason::OutOfOrder => "core record out of order, or first not start",
+            Reason::BadField => "field breaks its layout",
+            Reason::UnlikeItem => "extra reference unlike its item",
+            Reason::TooMuchInformation => "100th information record",
+            Reason::NoPlaceForPayer => "no place for a new payer",
+            Reason::PayerOwes => "a payer's deductions too high",
+            Reason::DepositDisagrees => "deposit disagrees",
+            Reason::CountsDisagree => "end counts disagree",
+            Reason::TooManyRecords => "record 50,001",
+            Reason::Unfinished => "file ends before its end record",
+            Reason::RiderIllFormed => "rider ill-formed",
+            Reason::RiderAtWrongLevel => "rider at a wrong level",
+            Reason::ShelfFull => "adding to a full shelf",
+            Reason::NoShelfRecord => "no such shelf record",
+            Reason::MarkedTest => "marked T",
+            Reason::SameTimeStamp => "time stamp already there",
+            Reason::NoRoom => "no room on the shelf",
+            Reason::NoEntry => "no such entry or record",
+            Reason::RowTableShort => "row table short",
+            Reason::BalanceTableShort => "balance table short",
+            Reason::CopyBufferShort => "copy buffer short",
+            Reason::NoTrailer => "no right trailer where one is due",
+            Reason::EntryUnreadable => "entry can't be read",
+            Reason::TrailerDisagrees => "trailer disagrees with entry",
+        }
+    }
+}
+
+/// A number that no reason has.
+#[derive(Clone, Copy, Debug, PartialEq, Eq)]
+pub struct NoSuchRefusal(pub u8);
+
+impl TryFrom<u8> for Reason {
+    type Error = NoSuchRefusal;
+
+    ghost try_from_gives = { Names };
+
+    fn try_from(number: u8) -> Result<Self, NoSuchRefusal> {
+        match number {
+            1 => Ok(Reason::BrokenRecord),
+            2 => Ok(Reason::BadCode),
+            3 => Ok(Reason::OutOfOrder),
+            4 => Ok(Reason::BadField),
+            5 => Ok(Reason::UnlikeItem),
+            6 => Ok(Reason::TooMuchInformation),
+            7 => Ok(Reason::NoPlaceForPayer),
+            8 => Ok(Reason::PayerOwes),
+            9 => Ok(Reason::DepositDisagrees),
+            10 => Ok(Reason::CountsDisagree),
+            11 => Ok(Reason::TooManyRecords),
+            12 => Ok(Reason::Unfinished),
+            13 => Ok(Reason::RiderIllFormed),
+            14 => Ok(Reason::RiderAtWrongLevel),
+            15 => Ok(Reason::ShelfFull),
+            16 => Ok(Reason::NoShelfRecord),
+            20 => Ok(Reason::MarkedTest),
+            21 => Ok(Reason::SameTimeStamp),
+            22 => Ok(Reason::NoRoom),
+            24 => Ok(Reason::NoEntry),
+            25 => Ok(Reason::RowTableShort),
+            26 => Ok(Reason::BalanceTableShort),
+            27 => Ok(Reason::CopyBufferShort),
+            30 => Ok(Reason::NoTrailer),
+            31 => Ok(Reason::EntryUnreadable),
+            32 => Ok(Reason::TrailerDisagrees),
+            _ => Err(NoSuchRefusal(number)),
+        }
+    }
+}
+
+/// The words of the reason that has the number.
+pub fn cause(number: u8) -> &'static str
+    ensures { result.now ≡ cause_of number }
+{
+    match Reason::try_from(number) {
+        Ok(reason) => reason.words(),
+        Err(_) => "no such refusal",
+    }
+}
+
+/// The part of the product that refused.
+#[derive(Clone, Copy, Debug, PartialEq, Eq)]
 pub enum Layer {
     File,
     Shelf,
     Volume,
 }
 
-// Where it was refused.
-#[derive(Clone, Copy)]
+/// Where it was refused.
+#[derive(Clone, Copy, Debug, PartialEq, Eq)]
 pub enum Place {
-    // the whole of what was asked
-    Nowhere,
-    // a record of the file, counted from 1
+    /// A record of the file, counted from 1.
     Record(usize),
-    // how many records the shelf holds
+    /// How many records the shelf holds.
     Count(usize),
-    // a record of the shelf, counted from 1
+    /// A record of the shelf, counted from 1.
     ShelfRecord(usize),
-    // an entry of the volume, counted from 1
+    /// An entry of the volume, counted from 1.
     Entry(usize),
 }
 
-#[derive(Clone, Copy)]
+/// What is told of a refused call.
+#[derive(Clone, Copy, Debug, PartialEq, Eq)]
 pub struct Refusal {
-    pub number: u8,
+    pub reason: Reason,
     pub layer: Layer,
-    pub place: Place,
+    /// None where the whole of what was asked is refused.
+    pub place: Option<Place>,
 }
 
-// The cause in words.
-pub fn cause(number: u8) -> &'static str
-    ensures { result.now ≡ cause_of number }
-{
-    match number {
-        1 => "no whole record",
-        2 => "code not two digits",
-        3 => "core record out of order, or first not start",
-        4 => "field breaks its layout",
-        5 => "extra reference unlike its item",
-        6 => "100th information record",
-        7 => "no place for a new payer",
-        8 => "a payer's deductions too high",
-        9 => "deposit disagrees",
-        10 => "end counts disagree",
-        11 => "record 50,001",
-        12 => "file ends before its end record",
-        13 => "rider ill-formed",
-        14 => "rider at a wrong level",
-        15 => "adding to a full shelf",
-        16 => "no such shelf record",
-        20 => "marked T",
-        21 => "time stamp already there",
-        22 => "no room on the shelf",
-        24 => "no such entry or record",
-        25 => "row table short",
-        26 => "balance table short",
-        27 => "copy buffer short",
-        30 => "no right trailer where one is due",
-        31 => "entry can't be read",
-        32 => "trailer disagrees with entry",
-        _ => "no such refusal",
+impl Refusal {
+    /// The number of its reason.
+    pub fn number(self) -> u8
+        ensures { result ≡ number_of self.reason }
+    {
+        self.reason.number()
     }
 }
+
+impl fmt::Display for Reason {
+    fn fmt<W: fmt::Write>(&self, f: &mut fmt::Formatter<W>) -> fmt::Result {
+        f.write_str(self.words())
+    }
+}
+
+impl fmt::Display for NoSuchRefusal {
+    fn fmt<W: fmt::Write>(&self, f: &mut fmt::Formatter<W>) -> fmt::Result {
+        write!(f, "no refusal has number {}", self.0)
+    }
+}
+
+impl Error for NoSuchRefusal {}
 
 impl fmt::Display for Layer {
     fn fmt<W: fmt::Write>(&self, f: &mut fmt::Formatter<W>) -> fmt::Result {
@@ -84,7 +227,6 @@ impl fmt::Display for Layer {
 impl fmt::Display for Place {
     fn fmt<W: fmt::Write>(&self, f: &mut fmt::Formatter<W>) -> fmt::Result {
         match self {
-            Place::Nowhere => Ok(()),
             Place::Record(n) => write!(f, ", record {n}"),
             Place::Count(n) => write!(f, ", count {n}"),
             Place::ShelfRecord(n) => write!(f, ", shelf record {n}"),
@@ -95,10 +237,15 @@ impl fmt::Display for Place {
 
 impl fmt::Display for Refusal {
     fn fmt<W: fmt::Write>(&self, f: &mut fmt::Formatter<W>) -> fmt::Result {
-        let number = self.number;
-        let layer = self.layer;
-        let place = self.place;
-        let words = cause(number);
-        write!(f, "{number}, {layer}{place}: {words}")
+        let Refusal {
+            reason,
+            layer,
+            place,
+        } = *self;
+        let number = reason.number();
+        match place {
+            Some(place) => write!(f, "{number}, {layer}{place}: {reason}"),
+            None => write!(f, "{number}, {layer}: {reason}"),
+        }
     }
 }

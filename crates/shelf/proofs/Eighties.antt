@@ -1,18 +1,15 @@
 -- What `eighties` and `held` are: lengths, places, one record more.
-use Rattle.std.proofs.Common.{◌≡◌, ℕ, zero, suc, ◌+◌, ◌-◌, ◌*◌, ◌/◌, ◌<◌, ◌≤◌, min, List, [], ◌∷◌, ◌++◌, length, get_or, take, drop, sym, refl, ap, ◌∙◌, arith, rules}
+use Rattle.std.proofs.Common.{◌≡◌, ℕ, zero, suc, ◌+◌, ◌-◌, ◌*◌, ◌<◌, ◌≤◌, min, List, [], ◌∷◌, ◌++◌, length, take, drop, sym, refl, ap, ◌∙◌, arith, rules}
 use borrow.Rule.Slice.PartMut.{put_mid}
-use Rattle.std.specs.List.{between}
 use Rattle.std.proofs.lemmas.List.{drop-drop, drop-take, take-take, places as list_places}
 use Rattle.std.proofs.lemmas.Slice.{take-put_mid_below, between-put_mid}
-use Rattle.std.proofs.lemmas.Bool.{cond_below}
-use Rattle.shelf.specs.Records.{eighties, places, held, written, highest, length_held}
+use Rattle.shelf.specs.Records.{eighties, places, held, length_held}
 
--- the record at place k
-pub eighties_at : (n : ℕ) (bytes : List ℕ) (k : ℕ) (d : List ℕ) → k < n → get_or (eighties n bytes) k d ≡ take 80 (drop (80 * k) bytes)
-eighties_at zero bytes k d h = absurd (omega arith)
-eighties_at (suc n) bytes zero d h = refl
-eighties_at (suc n) bytes (suc k) d h =
-    eighties_at n (drop 80 bytes) k d (omega arith) ∙ ap (take 80) (drop-drop (80 * k) 80 bytes ∙ ap (λ m. drop m bytes) (omega arith))
+-- the first of more
+pub take-eighties : (c n : ℕ) (bytes : List ℕ) → c ≤ n → take c (eighties n bytes) ≡ eighties c bytes
+take-eighties zero n bytes h = refl
+take-eighties (suc c) zero bytes h = absurd (omega arith)
+take-eighties (suc c) (suc n) bytes h = ap (λ rs. take 80 bytes ∷ rs) (take-eighties c n (drop 80 bytes) (omega arith))
 
 -- one record more, at the end
 pub eighties-more : (n : ℕ) (bytes : List ℕ) → eighties (n + 1) bytes ≡ eighties n bytes ++ take 80 (drop (80 * n) bytes) ∷ []
@@ -50,25 +47,6 @@ held_add bytes count c k item is h e l =
     let step : 80 * c + 80 - 80 * c ≡ 80 = omega arith in
     let last : take 80 (drop (80 * c) ys) ≡ item = ap (λ m. take m (drop (80 * c) ys)) (sym step) ∙ between-put_mid (80 * c) k bytes item (80 * c + 80) (omega arith) (omega arith) in
     ap (λ m. eighties m ys) n ∙ eighties-more c ys ∙ ap (λ r. eighties c ys ++ r ∷ []) last ∙ ap (λ r. r ++ item ∷ []) front ∙ ap (λ m. eighties m bytes ++ item ∷ []) is
-
--- That write, as the clause on the caller's bytes has it.
-pub written_is : (bytes : List ℕ) (count c k : ℕ) (item : List ℕ) → c ≡ min count (places bytes) → c < places bytes → k ≡ 80 → put_mid (80 * c) k bytes item ≡ written bytes count item
-written_is bytes count c k item is h e =
-    let put : ℕ → List ℕ = λ m. take (80 * m) bytes ++ (item ++ drop (80 * m + 80) bytes) in
-    let n = min count (places bytes) in
-    let below : n < places bytes = omega arith in
-    ap (λ r. take (80 * c) bytes ++ (item ++ r)) (drop-drop k (80 * c) bytes ∙ ap (λ m. drop (80 * c + m) bytes) e)
-    ∙ ap put is
-    ∙ cond_below n (places bytes) (put n) bytes below
-
-pub places-put : (bytes : List ℕ) (a k : ℕ) (item : List ℕ) → k ≡ 80 → length item ≡ 80 → a + 80 ≤ length bytes → places (put_mid a k bytes item) ≡ places bytes
-places-put bytes a k item e l h = let long = length-put bytes a k item e l h in ap (λ m. min (m / 80) highest) long
-
--- The record of number n.
-pub held_at : (bytes : List ℕ) (count n : ℕ) (d : List ℕ) → 0 < n → n ≤ min count (places bytes) → between (80 * (n - 1)) (80 * (n - 1) + 80) bytes ≡ get_or (held bytes count) (n - 1) d
-held_at bytes count n d p h =
-    let step : 80 * (n - 1) + 80 - 80 * (n - 1) ≡ 80 = omega arith in
-    ap (λ j. take j (drop (80 * (n - 1)) bytes)) step ∙ sym (eighties_at (min count (places bytes)) bytes (n - 1) d (omega arith))
 
 -- A list that is held at one count is held at another that cuts to its length.
 pub held_recount : (bytes : List ℕ) (x count : ℕ) (rs : List (List ℕ)) → held bytes x ≡ rs → min count (places bytes) ≡ length rs → held bytes count ≡ rs

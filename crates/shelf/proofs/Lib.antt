@@ -1,4 +1,3 @@
 pub mod Eighties
 pub mod Flat
-pub mod PairCalls
 pub mod Calls

@@ -1,5 +1,6 @@
 -- What a shelf holds: a list of records of 80 bytes each; and records as they lie in a run of bytes.
 use Rattle.std.specs.Prelude.{◌≡◌, ℕ, zero, suc, ◌+◌, ◌*◌, ◌/◌, ◌≤◌, min, cond, List, [], ◌∷◌, ◌++◌, length, take, drop, nat_lt, refl}
+use Rattle.std.specs.Simd.{first_chunks}
 use Rattle.std.proofs.Common.{ap, arith, length-drop}
 use Rattle.std.proofs.lemmas.List.{length-take-le}
 
@@ -14,8 +15,7 @@ Whole (r ∷ rs) = (length r ≡ 80) × Whole rs
 
 -- The first n runs of 80 bytes of a list of bytes.
 abbrev pub eighties : ℕ → List ℕ → List (List ℕ)
-eighties zero bytes = []
-eighties (suc n) bytes = take 80 bytes ∷ eighties n (drop 80 bytes)
+eighties n bytes = first_chunks 80 n bytes
 
 -- The bytes of records, one record behind the other.
 abbrev pub flat : List (List ℕ) → List ℕ

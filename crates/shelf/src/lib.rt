@@ -6,7 +6,7 @@ ghost use Rattle.shelf.specs.Laws.{Laws};
 ghost use Rattle.shelf.specs.Answers.{add_answer, added, copy_answer, copied};
 ghost use Rattle.shelf.specs.Refusals.{refusal_of};
 
-use refusal::{Layer, Place, Refusal};
+use refusal::{Layer, Place, Reason, Refusal};
 
 mod memory;
 mod pair;
@@ -20,7 +20,7 @@ pub use runs::{lay, read_range};
 const MOST: usize = 500_000;
 
 /// Why a shelf refused a call.
-#[derive(Clone, Copy)]
+#[derive(Clone, Copy, Debug, PartialEq, Eq)]
 pub enum ShelfFault {
     /// No place is left, at that many records.
     Full(usize),
@@ -28,22 +28,25 @@ pub enum ShelfFault {
     NoRecord(usize),
 }
 
-/// What a fault tells: its number, the layer and the place.
-pub fn refusal(fault: ShelfFault) -> Refusal
-    ensures { result ≡ refusal_of fault }
-{
-    let (number, place) = match fault {
-        ShelfFault::Full(count) => (15, Place::Count(count)),
-        ShelfFault::NoRecord(n) => (16, Place::ShelfRecord(n)),
-    };
-    Refusal {
-        number,
-        layer: Layer::Shelf,
-        place,
+/// What a fault tells: its reason, the layer and the place.
+impl From<ShelfFault> for Refusal {
+    ghost from_gives = { λ fault told. told ≡ refusal_of fault };
+
+    fn from(fault: ShelfFault) -> Refusal {
+        let (reason, place) = match fault {
+            ShelfFault::Full(count) => (Reason::ShelfFull, Place::Count(count)),
+            ShelfFault::NoRecord(n) => (Reason::NoShelfRecord, Place::ShelfRecord(n)),
+        };
+        Refusal {
+            reason,
+            layer: Layer::Shelf,
+            place: Some(place),
+        }
     }
 }
 
 /// A list of records of 80 bytes, and a limit to its length. A refused call changes nothing.
+// That the limit and the lenders stay is a clause each of every call that changes a shelf: two plain equations, and no name for both.
 pub trait Shelf {
     ghost records: { Self → List (List ℕ) };
 

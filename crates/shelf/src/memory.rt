@@ -1,17 +1,25 @@
 //! A shelf over the caller's bytes.
-ghost use Rattle.std.specs.Prelude.{◌≡◌, ◌+◌, ◌-◌, ◌*◌, ◌<◌, ◌≤◌, min, length, refl};
+ghost use Rattle.std.specs.Prelude.{◌≡◌, ◌≤◌, min, length, refl};
 ghost use Rattle.std.proofs.Common.{◌∙◌};
-ghost use Rattle.std.specs.List.{between};
 ghost use Rattle.shelf.specs.Records.{places, held, written, whole_held, inside_held, bound_places};
 ghost use Rattle.shelf.specs.Answers.{add_answer, added};
 
 use crate::{MOST, Shelf, ShelfFault};
 
-/// Records in the caller's bytes, each in the next 80 of them.
+/// Records in the caller's bytes, each in the next 80 of them: there is no heap, by a rule of the project.
 #[derive(Drop)]
 pub struct MemoryShelf<'a> {
     bytes: &'a mut [u8],
     count: usize,
+    // Each record has its place.
+    ghost inside: { count ≤ places bytes.now },
+}
+
+// How many records a run of bytes has places for.
+fn places_in(bytes: &[u8]) -> usize
+    ensures { result ≡ places bytes.now }
+{
+    (bytes.len() / 80).min(MOST)
 }
 
 impl<'a> MemoryShelf<'a> {
@@ -22,29 +30,19 @@ impl<'a> MemoryShelf<'a> {
         ensures bytes { result.bytes.now ≡ bytes.old }
         ensures named { result.bytes.ghost_name ≡ bytes.entry.ghost_name }
     {
-        let places = (bytes.len() / 80).min(MOST);
+        let places = places_in(bytes);
         MemoryShelf {
             bytes,
             count: count.min(places),
         }
     }
 
-    // The count, as the length of the list and as a number of places.
-    fn held_count(&self) -> usize
-        ensures list { result ≡ length (held self.now.bytes.now self.now.count) }
-        ensures number { result ≡ min self.now.count (places self.now.bytes.now) }
+    // The records as they lie in the bytes.
+    fn records(&self) -> &[[u8; 80]]
+        ensures list { result.now ≡ held self.now.bytes.now self.now.count }
+        ensures count { length result.now ≡ self.now.count }
     {
-        self.count.min(self.limit())
-    }
-
-    // The bytes of record n, counted from 1.
-    fn record_bytes(&self, n: usize) -> &[u8]
-        requires { (0 < n) × (n ≤ places self.now.bytes.now) }
-        ensures bytes { result.now ≡ between (80 * (n - 1)) (80 * (n - 1) + 80) self.now.bytes.now }
-        ensures size { length result.now ≡ 80 }
-    {
-        let from = 80 * (n - 1);
-        &self.bytes[from..from + 80]
+        &self.bytes.as_chunks::<80>().0[..self.count]
     }
 }
 
@@ -58,22 +56,22 @@ impl Shelf for MemoryShelf<'_> {
     ghost laws = { record { whole = λ s. whole_held s.bytes.now s.count; inside = λ s. inside_held s.bytes.now s.count; bound = λ s. bound_places s.bytes.now; same_refl = λ s. refl; same_trans = λ s t u p q. q ∙ p } };
 
     fn count(&self) -> usize {
-        self.held_count()
+        self.records().len()
     }
 
     fn limit(&self) -> usize {
-        (self.bytes.len() / 80).min(MOST)
+        places_in(self.bytes)
     }
 
     // The last clause is more than any shelf promises: which of the caller's bytes change.
     fn add(&mut self, item: &[u8; 80]) -> Result<(), ShelfFault>
-        ensures answer { result ≡ add_answer (length (held self.old.bytes.now self.old.count)) (places self.old.bytes.now) }
-        ensures list { held self.new.bytes.now self.new.count ≡ added (held self.old.bytes.now self.old.count) (places self.old.bytes.now) item.now }
-        ensures limit { places self.new.bytes.now ≡ places self.old.bytes.now }
-        ensures same { self.new.bytes.ghost_name ≡ self.old.bytes.ghost_name }
+        ensures answer { result ≡ add_answer (length (⟦<Self as Shelf>⟧.records self.old)) (⟦<Self as Shelf>⟧.room self.old) }
+        ensures list { ⟦<Self as Shelf>⟧.records self.new ≡ added (⟦<Self as Shelf>⟧.records self.old) (⟦<Self as Shelf>⟧.room self.old) item.now }
+        ensures limit { ⟦<Self as Shelf>⟧.room self.new ≡ ⟦<Self as Shelf>⟧.room self.old }
+        ensures same { ⟦<Self as Shelf>⟧.same self.old self.new }
         ensures bytes { self.new.bytes.now ≡ written self.old.bytes.now self.old.count item.now }
     {
-        let count = self.held_count();
+        let count = self.records().len();
         if count == self.limit() {
             return Err(ShelfFault::Full(count));
         }
@@ -84,10 +82,11 @@ impl Shelf for MemoryShelf<'_> {
     }
 
     fn copy(&self, n: usize, out: &mut [u8; 80]) -> Result<(), ShelfFault> {
-        if n == 0 || n > self.held_count() {
+        let records = self.records();
+        if n == 0 || n > records.len() {
             return Err(ShelfFault::NoRecord(n));
         }
-        out.copy_from_slice(self.record_bytes(n));
+        *out = records[n - 1];
         Ok(())
     }
 }

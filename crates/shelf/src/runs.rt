@@ -49,6 +49,7 @@ pub fn read_range<S: Shelf>(shelf: &S, n: usize, out: &mut [u8]) -> Result<(), S
         return Err(ShelfFault::NoRecord(missing(shelf, n)));
     }
     let mut item = [0u8; 80];
+    // by index, since nothing is known afterwards of a slice that was written through its chunks
     for i in 0..k {
         shelf.copy(n + i, &mut item)?;
         let from = 80 * i;

@@ -1,6 +1,5 @@
 -- One entry into the first rows of a slice, as the code makes it. Assumes nothing.
-use Rattle.std.proofs.Common.{◌≡◌, ℕ, ◌+◌, ◌<◌, ◌≤◌, Bool, true, false, cond, ltb, List, [], ◌∷◌, ◌++◌, length, get_or, take, drop, set, Some, None, Option, sym, refl, ap, ◌∙◌, add-one, arith, take-append-drop}
-use Rattle.std.proofs.lemmas.Bool.{ltb-true, ltb-false}
+use Rattle.std.proofs.Common.{◌≡◌, ℕ, ◌+◌, ◌<◌, ◌≤◌, Bool, List, [], ◌∷◌, ◌++◌, length, get_or, take, drop, set, Some, None, Option, sym, ap, ◌∙◌, add-one, arith, take-append-drop}
 use Rattle.std.proofs.lemmas.List.{length-take-le, get_or-take, set-append_left, length_push, length-set, set_split, append_assoc, take_at, length-append}
 use Rattle.sums.specs.declared.Row.{Row}
 use Rattle.sums.specs.Keys.{Lawful}
@@ -9,45 +8,47 @@ use Rattle.sums.specs.Laws.{Entered}
 use Rattle.sums.proofs.Tables.{enter_new, enter_full, enter_at}
 use Rattle.sums.proofs.Laws.{sums_stand}
 
-module _ {K : Type 0} (same : K → K → Bool) (law : Lawful same) (k : K) (a t : ℕ) (rows : List (Row K)) (used : ℕ) (within : used ≤ length rows) where
+module _ {K : Type 0} (same : K → K → Bool) (law : Lawful same) (rows : List (Row K)) (used : ℕ) (within : used ≤ length rows) (e : Row K) where
   abbrev out : Option (List (Row K))
-  out = enter same (length rows) (take used rows) k a t
+  out = enter same (length rows) (take used rows) e.key e.added e.taken
 
   -- n rows u are then in use, at the front of the slice
-  made : (u after : List (Row K)) (n : ℕ) → out ≡ Some u → length u ≡ n → after ≡ u ++ drop n rows → Entered same used k a t rows after (Some n)
-  made u after n e long whole =
+  made : (u after : List (Row K)) (n : ℕ) → out ≡ Some u → length u ≡ n → after ≡ u ++ drop n rows → Entered same used e.key e.added e.taken rows after (Some n)
+  made u after n is long whole =
       let front : take n after ≡ u = ap (take n) whole ∙ take_at u (drop n rows) n long in
       record {
         within = omega (arith, ap length whole, length-append u (drop n rows));
-        answer = rw (e, long);
-        table = rw (e, long) whole;
-        held = ap Some front ∙ sym e;
+        answer = rw (is, long);
+        table = rw (is, long) whole;
+        held = ap Some front ∙ sym is;
         laws = sums_stand same law;
       }
 
-  -- a row of k is put behind those in use, if one is free
-  pub puts : (after : List (Row K)) (answered : Option ℕ) → None ≡ place same (take used rows) k → answered ≡ cond (ltb used (length rows)) (Some (used + 1)) None → after ≡ cond (ltb used (length rows)) (set rows used (record { key = k; added = a; taken = t })) rows → Entered same used k a t rows after answered
-  puts after answered new is whole =
-      let row : Row K = record { key = k; added = a; taken = t } in
-      let long : length (take used rows) ≡ used = length-take-le used rows within in
-      (elim (ltb used (length rows)) as (λ b. ltb used (length rows) ≡ b → answered ≡ cond b (Some (used + 1)) None → after ≡ cond b (set rows used row) rows → Entered same used k a t rows after answered) [
-        | true ↦ λ w h l.
-            let room : used < length rows = ltb-true _ _ w in
-            rw h (made (take used rows ++ row ∷ []) after (used + 1)
-            (enter_new same k a t (length rows) (take used rows) new (omega arith))
-            (length_push (take used rows) row ∙ ap (λ n. n + 1) long)
-            (l ∙ set_split rows used row room ∙ simp (append_assoc, add-one)))
-        | false ↦ λ w h l.
-            let e : out ≡ None = enter_full same k a t (length rows) (take used rows) new (omega (arith, ltb-false _ _ w)) in
-            rw (h, l) (record { within = tt; answer = rw e; table = rw e; held = sym e; laws = sums_stand same law })
-      ]) refl is whole
+  -- the rows in use are `held`, as the code looks through them
+  module _ (held : List (Row K)) (is_held : held ≡ take used rows) where
+    long : length (take used rows) ≡ used
+    long = length-take-le used rows within
 
-  -- r is what was read at i, and s what is written there
-  pub adds : (i : ℕ) (r s : Row K) → i < used → Some i ≡ place same (take used rows) k → r ≡ get_or rows i r → s ≡ grown r a t → Entered same used k a t rows (set rows i s) (Some used)
-  adds i r s lt there read grew =
-      let here : get_or (take used rows) i r ≡ r = get_or-take used rows i r lt ∙ sym read in
-      let long : length (take used rows) ≡ used = length-take-le used rows within in
-      made (set (take used rows) i s) (set rows i s) used
-      (enter_at same k a t (length rows) (take used rows) i r there (omega arith) ∙ ap (λ z. Some (set (take used rows) i z)) (ap (λ z. grown z a t) here ∙ sym grew))
-      (length-set (take used rows) i s ∙ long)
-      (ap (λ l. set l i s) (sym (take-append-drop used rows)) ∙ set-append_left (take used rows) (drop used rows) i s (omega arith))
+    -- a new key, whose row is put behind those in use
+    pub puts : None ≡ place same held e.key → (used ≡ length rows → ⊥) → Entered same used e.key e.added e.taken rows (set rows used e) (Some (used + 1))
+    puts new not_full =
+        let room : used < length rows = omega (arith, not_full) in
+        made (take used rows ++ e ∷ []) (set rows used e) (used + 1)
+        (enter_new same e.key e.added e.taken (length rows) (take used rows) (rw is_held at new) (omega (arith, long)))
+        (length_push (take used rows) e ∙ ap (λ n. n + 1) long)
+        (set_split rows used e room ∙ simp (append_assoc, add-one))
+
+    -- a new key, where all rows are in use
+    pub refuses : None ≡ place same held e.key → used ≡ length rows → Entered same used e.key e.added e.taken rows rows None
+    refuses new full =
+        let is : out ≡ None = enter_full same e.key e.added e.taken (length rows) (take used rows) (rw is_held at new) (omega (arith, long)) in
+        record { within = tt; answer = rw is; table = rw is; held = sym is; laws = sums_stand same law }
+
+    -- a key that has a row, at i: s is written there
+    pub adds : (i : ℕ) (r s : Row K) → i < length held → Some i ≡ place same held e.key → s ≡ grown (get_or rows i r) e.added e.taken → Entered same used e.key e.added e.taken rows (set rows i s) (Some used)
+    adds i r s lt there grew =
+        let below : i < used = omega (arith, ap length is_held, long) in
+        made (set (take used rows) i s) (set rows i s) used
+        (enter_at same e.key e.added e.taken (length rows) (take used rows) i r (rw is_held at there) (omega (arith, long)) ∙ ap (λ z. Some (set (take used rows) i z)) (ap (λ z. grown z e.added e.taken) (get_or-take used rows i r below) ∙ sym grew))
+        (length-set (take used rows) i s ∙ long)
+        (ap (λ l. set l i s) (sym (take-append-drop used rows)) ∙ set-append_left (take used rows) (drop used rows) i s (omega (arith, long)))

@@ -1,6 +1,7 @@
 -- A table of sums: a list of rows, looked up by an equality of keys. Assumes nothing.
-use Rattle.std.specs.Prelude.{ℕ, suc, ◌+◌, ◌-◌, ◌^◌, min, Bool, true, cond, ◌&&◌, List, [], ◌∷◌, ◌++◌, length, take, drop, Some, None, Option, nat_le}
+use Rattle.std.specs.Prelude.{ℕ, suc, ◌+◌, ◌-◌, ◌^◌, min, Bool, cond, List, [], ◌∷◌, ◌++◌, length, take, drop, Some, None, Option, Ok, Err, Result, nat_le}
 use Rattle.std.specs.Option.{option_map}
+use Rattle.std.specs.List.{list_all}
 use Rattle.sums.specs.declared.Row.{Row}
 
 -- a sum as a column holds it: at most 2 ^ 64 - 1
@@ -41,5 +42,9 @@ in_use rows used = option_map (λ n. take n rows) used
 
 -- no row has more taken than added
 abbrev pub covered : {K : Type 0} → List (Row K) → Bool
-covered [] = true
-covered (r ∷ rs) = nat_le r.taken r.added && covered rs
+covered rows = list_all (λ r. nat_le r.taken r.added) rows
+
+-- how many rows are in use after an entry, if it was not refused
+abbrev pub answered : {E : Type 0} → Result (Unit {0}) E → ℕ → Option ℕ
+answered (Ok done) used = Some used
+answered (Err cause) used = None

@@ -1,13 +1,15 @@
 -- One turn of the listing, and its two ends.
-use Rattle.std.proofs.Common.{◌≡◌, ℕ, ◌+◌, true, false, eqb, List, length, drop, Some, None, Ok, Err, Option, sym, subst}
+use Rattle.std.proofs.Common.{◌≡◌, ℕ, ◌+◌, ◌<◌, true, false, eqb, List, length, drop, Some, None, Ok, Err, Option, sym, subst, arith}
 use Rattle.std.proofs.lemmas.List.{nil_from_length}
-use Rattle.std.proofs.lemmas.Bool.{eqb-true}
+use Rattle.std.proofs.lemmas.Bool.{eqb-true, eqb-false}
 use Rattle.record.specs.Editions.{Meaning}
 use Rattle.manual.specs.declared.faults.FileFault.{FileFault}
 use Rattle.file.specs.declared.single.One.{One}
 use Rattle.file.specs.Numbering.{numbered}
-use Rattle.file.proofs.Turns.{some_left}
 use Rattle.file.specs.Single.{one_of, Listed, done, stop, next}
+
+some_left : (bs : List ℕ) → false ≡ eqb (length bs) 0 → 0 < length bs
+some_left bs e = omega (arith, eqb-false (length bs) 0 (sym e))
 
 -- what can be listed from here can be listed of the whole
 abbrev pub Leads : Meaning → List ℕ → ℕ → List ℕ → Type 0

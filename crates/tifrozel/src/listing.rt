@@ -38,6 +38,7 @@ pub fn list<E: Edition>(heap: Global, bytes: &[u8], edition: &E) -> Result<Listi
     let mut lines = String::new(heap);
     let mut records: usize = 0;
     let mut rest = bytes;
+    // no `for`: what a record took is what `read_one` says of it, and how many were read is answered
     while !rest.is_empty() {
         match read_one(rest, records + 1, edition) {
             Ok(one) => {

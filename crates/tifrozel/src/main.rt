@@ -1,41 +1,26 @@
 // The program of the support desk: arguments, files and printing. Every decision is made in the library.
 #![tactic(auto)]
 
-ghost use Rattle.std.specs.Prelude.{IfOk};
-ghost use Rattle.file.specs.Single.{Listed};
-ghost use Rattle.tifrozel.specs.Editions.{meant};
-
 mod checks;
-mod fields;
 mod listing;
 mod show;
 mod words;
 
 use anyhow::anyhow;
 use checks::checked;
-use fields::field_words;
-use listing::{Listing, list};
-use manual::{Cause, FileFault, refusal_of_file};
-use record::{Bare, House, RecordFault};
-use std::alloc::{AllocError, Global};
+use listing::list;
+use manual::{Cause, FileFault};
+use record::RecordFault;
+use refusal::Refusal;
 use std::process::ExitCode;
 use std::{env, fs};
-use words::{EditionName, edition_asked, is_comment, options_asked, words_of};
+use words::{Command, EditionName, edition_asked, is_comment, options_asked, words_of};
 
 const USAGE: &str =
     "write tifrozel [--payers N] check FILE [under bare|house], or tifrozel read FILE [under bare|house]";
 
-fn listed(heap: Global, bytes: &[u8], edition: EditionName) -> Result<Listing, AllocError>
-    ensures { IfOk result (λ l. Listed (meant edition) 0 bytes.now l.records l.fault) }
-{
-    match edition {
-        EditionName::Bare => list(heap, bytes, &Bare),
-        EditionName::House => list(heap, bytes, &House),
-    }
-}
-
 // The bytes of a file; where it cannot be read, the command says so.
-fn bytes_of(rt: &HostRuntime, command: &str, path: &str) -> anyhow::Result<Vec<u8>> {
+fn bytes_of(rt: &HostRuntime, command: Command, path: &str) -> anyhow::Result<Vec<u8>> {
     match fs::read(rt, path) {
         Ok(bytes) => Ok(bytes),
         Err(e) => {
@@ -45,20 +30,19 @@ fn bytes_of(rt: &HostRuntime, command: &str, path: &str) -> anyhow::Result<Vec<u
     }
 }
 
-fn refused(rt: &HostRuntime, command: &str, path: &str, fault: FileFault) -> anyhow::Result<()> {
-    let refusal = refusal_of_file(fault);
+fn refused(rt: &HostRuntime, command: Command, path: &str, fault: FileFault) -> anyhow::Result<()> {
+    let refusal = Refusal::from(fault);
     println!(rt; "{command} {path}: refused {refusal}")?;
     if let Cause::Unreadable(RecordFault::Layout(field)) = fault.cause {
-        let words = field_words(field);
-        eprintln!(rt; "the field is {words}")?;
+        eprintln!(rt; "the field is {field}")?;
     }
     Err(anyhow!("refused"))
 }
 
 // Each record of the file by itself, then the refusal where one cannot be read.
 fn read(rt: &HostRuntime, path: &str, edition: EditionName) -> anyhow::Result<()> {
-    let bytes = bytes_of(rt, "read", path)?;
-    let listing = listed(rt.alloc(), &bytes, edition)?;
+    let bytes = bytes_of(rt, Command::Read, path)?;
+    let listing = list(rt.alloc(), &bytes, &edition)?;
     let records = listing.records;
     let noun = if records == 1 { "record" } else { "records" };
     println!(rt; "read {path}: {records} {noun}, each by itself")?;
@@ -66,13 +50,13 @@ fn read(rt: &HostRuntime, path: &str, edition: EditionName) -> anyhow::Result<()
     print!(rt; "{lines}")?;
     match listing.fault {
         None => Ok(()),
-        Some(fault) => refused(rt, "read", path, fault),
+        Some(fault) => refused(rt, Command::Read, path, fault),
     }
 }
 
 fn check(rt: &HostRuntime, path: &str, edition: EditionName, payers: usize) -> anyhow::Result<()> {
-    let bytes = bytes_of(rt, "check", path)?;
-    match checked(rt.alloc(), &bytes, edition, payers)? {
+    let bytes = bytes_of(rt, Command::Check, path)?;
+    match checked(rt.alloc(), &bytes, &edition, payers)? {
         Ok(counts) => {
             let payments = counts.payments;
             let deductions = counts.deductions;
@@ -83,7 +67,7 @@ fn check(rt: &HostRuntime, path: &str, edition: EditionName, payers: usize) -> a
             )?;
             Ok(())
         }
-        Err(fault) => refused(rt, "check", path, fault),
+        Err(fault) => refused(rt, Command::Check, path, fault),
     }
 }
 
@@ -93,23 +77,21 @@ fn not_run(rt: &HostRuntime, command: &str, why: &str) -> anyhow::Result<()> {
     Err(anyhow!("not run"))
 }
 
-fn run(rt: &HostRuntime, args: &Vec<String>) -> anyhow::Result<()> {
-    let Some(options) = options_asked(args) else {
+fn run(rt: &HostRuntime, args: &[String]) -> anyhow::Result<()> {
+    let Some(asked) = options_asked(args) else {
         return not_run(rt, "tifrozel", USAGE);
     };
-    let at = options.at;
-    let command = args[at].as_str();
-    if command != "read" && command != "check" {
-        return not_run(rt, command, "no such command");
-    }
-    let Some(edition) = edition_asked(args, at) else {
-        return not_run(rt, command, USAGE);
+    let word = asked.words[0].as_str();
+    let Ok(command) = word.parse::<Command>() else {
+        return not_run(rt, word, "no such command");
     };
-    let path = args[at + 1].as_str();
-    if command == "read" {
-        read(rt, path, edition)
-    } else {
-        check(rt, path, edition, options.payers)
+    let Some(edition) = edition_asked(asked.words) else {
+        return not_run(rt, word, USAGE);
+    };
+    let path = asked.words[1].as_str();
+    match command {
+        Command::Read => read(rt, path, edition),
+        Command::Check => check(rt, path, edition, asked.payers),
     }
 }
 
@@ -136,10 +118,7 @@ fn serve(rt: &HostRuntime) -> anyhow::Result<()> {
 
 // The command that stands in the arguments or, without any, the commands of standard input.
 fn asked(rt: &HostRuntime) -> anyhow::Result<()> {
-    let mut args = Vec::new(rt.alloc());
-    for word in env::args(rt)?.skip(1) {
-        args.push(word)?;
-    }
+    let args: Vec<String> = env::args(rt)?.skip(1).collect(rt.alloc())?;
     if args.is_empty() {
         serve(rt)
     } else {

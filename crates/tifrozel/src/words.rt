@@ -1,40 +1,99 @@
 // The words of a command.
-ghost use Rattle.std.specs.Prelude.{◌≡◌, ◌+◌, ◌≤◌, true, ◌&&◌, length, is_some, IfSome, Some, None, vec_len, codes, ◌==◌, ◌≢◌, nat_lt, slice_index};
-ghost use Rattle.tifrozel.specs.declared.words.EditionName.TheVariants.{Bare, House};
+ghost use Rattle.std.specs.Prelude.{◌≡◌, ◌≤◌, true, ◌&&◌, length, is_some, IfSome, Some, None, ◌==◌, ◌≢◌, nat_lt, slice_index};
+ghost use Rattle.tifrozel.specs.declared.words.EditionName.TheVariants.{House as named_house};
+ghost use Rattle.tifrozel.specs.Words.{IsEditionNamed, IsCommandNamed, IsTailAfter};
+ghost use Rattle.tifrozel.specs.Editions.{meant};
 
+use record::{Bare, Edition, House, Level};
 use std::alloc::{AllocError, Global};
+use std::fmt;
+use std::str::FromStr;
 
-#[derive(Clone, Copy)]
+#[derive(Clone, Copy, Debug, PartialEq, Eq)]
 pub enum EditionName {
     Bare,
     House,
 }
 
-fn edition_named(word: &str) -> Option<EditionName>
-    ensures bare { result ≡ Some Bare → word.now ≡ codes "bare" }
-    ensures house { result ≡ Some House → word.now ≡ codes "house" }
-    ensures other { result ≡ None → (word.now ≢ codes "bare") × (word.now ≢ codes "house") }
-{
-    match word {
-        "bare" => Some(EditionName::Bare),
-        "house" => Some(EditionName::House),
-        _ => None,
+// A word that names no edition.
+#[derive(Clone, Copy, Debug, PartialEq, Eq)]
+pub struct NoSuchEdition;
+
+impl FromStr for EditionName {
+    type Err = NoSuchEdition;
+
+    ghost from_str_gives = { IsEditionNamed };
+
+    fn from_str(word: &str) -> Result<EditionName, NoSuchEdition> {
+        match word {
+            "bare" => Ok(EditionName::Bare),
+            "house" => Ok(EditionName::House),
+            _ => Err(NoSuchEdition),
+        }
     }
 }
 
-// The edition that `COMMAND FILE [under EDITION]` asks for, where the command stands at `at`; none where the words are
-// not so put.
-pub fn edition_asked(args: &Vec<String>, at: usize) -> Option<EditionName>
-    ensures words { is_some result ≡ true → at + 2 ≤ vec_len args.now }
-    ensures unnamed { vec_len args.now ≡ at + 2 → result ≡ Some House }
-    ensures ill_put { (vec_len args.now ≢ at + 2) → (vec_len args.now ≢ at + 4) → result ≡ None }
-{
-    if args.len() <= at {
-        return None;
+// An edition that is known by its name only when the program runs.
+impl Edition for EditionName {
+    ghost meaning = { meant };
+
+    fn level(&self, code: u8) -> Option<Level> {
+        match self {
+            EditionName::Bare => Bare.level(code),
+            EditionName::House => House.level(code),
+        }
     }
-    match args.len() - at {
-        2 => Some(EditionName::House),
-        4 if args[at + 2].as_str() == "under" => edition_named(args[at + 3].as_str()),
+
+    fn is_formed(&self, code: u8, line: &[u8]) -> bool {
+        match self {
+            EditionName::Bare => Bare.is_formed(code, line),
+            EditionName::House => House.is_formed(code, line),
+        }
+    }
+}
+
+#[derive(Clone, Copy, Debug, PartialEq, Eq)]
+pub enum Command {
+    Read,
+    Check,
+}
+
+impl fmt::Display for Command {
+    fn fmt<W: fmt::Write>(&self, f: &mut fmt::Formatter<W>) -> fmt::Result {
+        f.write_str(match self {
+            Command::Read => "read",
+            Command::Check => "check",
+        })
+    }
+}
+
+// A word that names no command.
+#[derive(Clone, Copy, Debug, PartialEq, Eq)]
+pub struct NoSuchCommand;
+
+impl FromStr for Command {
+    type Err = NoSuchCommand;
+
+    ghost from_str_gives = { IsCommandNamed };
+
+    fn from_str(word: &str) -> Result<Command, NoSuchCommand> {
+        match word {
+            "read" => Ok(Command::Read),
+            "check" => Ok(Command::Check),
+            _ => Err(NoSuchCommand),
+        }
+    }
+}
+
+// The edition that `COMMAND FILE [under EDITION]` asks for; none where the words are not so put.
+pub fn edition_asked(words: &[String]) -> Option<EditionName>
+    ensures words { is_some result ≡ true → 2 ≤ length words.now }
+    ensures unnamed { length words.now ≡ 2 → result ≡ Some named_house }
+    ensures ill_put { (length words.now ≢ 2) → (length words.now ≢ 4) → result ≡ None }
+{
+    match words {
+        [_, _] => Some(EditionName::House),
+        [_, _, under, name] if under.as_str() == "under" => name.as_str().parse().ok(),
         _ => None,
     }
 }
@@ -43,51 +102,47 @@ pub fn edition_asked(args: &Vec<String>, at: usize) -> Option<EditionName>
 const MOST_PAYERS: usize = 50_000;
 
 #[derive(Clone, Copy)]
-pub struct Options {
+pub struct Asked<'a> {
     // rows of the payer table
     pub payers: usize,
-    // where the command stands
-    pub at: usize,
+    // the command, and what stands behind it
+    pub words: &'a [String],
 }
 
-// What stands before the command; none where it is not `--payers N`.
-pub fn options_asked(args: &Vec<String>) -> Option<Options>
-    ensures { IfSome result (λ o. (o.payers ≤ 50000) × (o.at + 1 ≤ vec_len args.now)) }
+// What is asked, where the words before the command are none or `--payers N`; none where they are others.
+pub fn options_asked(args: &[String]) -> Option<Asked<'_>>
+    ensures payers { IfSome result (λ o. o.payers ≤ 50000) }
+    ensures some { IfSome result (λ o. 1 ≤ length o.words.now) }
+    ensures words { IfSome result (λ o. IsTailAfter args.now o.words.now) }
 {
-    if args.is_empty() {
-        return None;
-    }
-    if args[0].as_str() != "--payers" {
-        return Some(Options {
+    let (first, rest) = args.split_first()?;
+    if first.as_str() != "--payers" {
+        return Some(Asked {
             payers: MOST_PAYERS,
-            at: 0,
+            words: args,
         });
     }
-    if args.len() < 3 {
+    let (number, words) = rest.split_first()?;
+    if words.is_empty() {
         return None;
     }
-    match args[1].as_str().parse::<usize>() {
-        Ok(n) => Some(Options {
-            payers: n.min(MOST_PAYERS),
-            at: 2,
-        }),
-        Err(_) => None,
-    }
+    let payers = number.as_str().parse::<usize>().ok()?;
+    Some(Asked {
+        payers: payers.min(MOST_PAYERS),
+        words,
+    })
 }
 
 // The words of a line, parted by blanks.
 pub fn words_of(heap: Global, line: &str) -> Result<Vec<String>, AllocError> {
-    let mut words = Vec::new(heap);
-    for word in line.split_whitespace() {
-        words.push(String::from_str(heap, word)?)?;
-    }
-    Ok(words)
+    line.split_whitespace()
+        .map(|word| String::from_str(heap, word))
+        .try_collect(heap)
 }
 
 // Whether a line begins with `#`, and so asks for nothing.
 pub fn is_comment(line: &str) -> bool
     ensures { result ≡ (nat_lt 0 (length line.now) && slice_index line.now 0 == 35) }
 {
-    let bytes = line.as_bytes();
-    bytes.len() > 0 && bytes[0] == b'#'
+    line.as_bytes().starts_with(b"#")
 }

@@ -1,6 +1,7 @@
 -- 80 digits with a code and check digits, whichever of the two records they are.
 use Rattle.std.proofs.Common.{◌≡◌, ℕ, ◌-◌, ◌^◌, ◌<◌, ◌≤◌, true, eqb, List, ◌++◌, length, take, drop, sym, ap, ◌∙◌, arith}
 use Rattle.std.proofs.lemmas.List.{take_all, take-append-drop, take-take}
+use Rattle.std.proofs.lemmas.List.Folds.{list_all-append}
 use Rattle.std.proofs.lemmas.Slice.{between_is}
 use Rattle.std.proofs.lemmas.List.Edits.{length-between}
 use Rattle.std.proofs.lemmas.Bool.{and_parts, and_from, eq-eqb, eqb-true}
@@ -8,7 +9,7 @@ use Rattle.std.specs.List.{between}
 use Rattle.field.specs.Bytes.{is_digit, every}
 use Rattle.trailer.specs.Digits.{value_of, digits_of, check_of}
 use Rattle.trailer.specs.Trailers.{checked, is_checked}
-use Rattle.trailer.proofs.Numbers.{value-back, value_small, every_append, every-digit, digits_value}
+use Rattle.trailer.proofs.Numbers.{value-back, value_small, every-digit, digits_value}
 
 pub record Checked (k : ℕ) (r : List ℕ) : Type 0 where
   pub digits : every is_digit r ≡ true
@@ -26,13 +27,13 @@ pub checked-front : (code : ℕ) (front : List ℕ) → code < 10 ^ 2 → every 
     → between 0 78 (checked front) ≡ front → between 78 80 (checked front) ≡ digits_of (check_of front) 2 → is_checked code (checked front) ≡ true
 checked-front code front small all first most last =
     let check : value_of (between 78 80 (checked front)) ≡ check_of (between 0 78 (checked front)) = value-back (check_of front) 2 last (omega arith) ∙ ap check_of (sym most) in
-    let digits : every is_digit (checked front) ≡ true = every_append is_digit front _ ∙ and_from _ _ all (every-digit (check_of front) 2) in
+    let digits : every is_digit (checked front) ≡ true = list_all-append is_digit front _ ∙ and_from _ _ all (every-digit (check_of front) 2) in
     and_from _ _ digits (and_from _ _ (eq-eqb _ _ (value-back code 2 first small)) (eq-eqb _ _ check))
 
 -- whichever bytes of a record are taken, they are digits if all are
 every_parts : (n : ℕ) (r : List ℕ) → every is_digit r ≡ true → (every is_digit (take n r) ≡ true) × (every is_digit (drop n r) ≡ true)
 every_parts n r h =
-    and_parts (every is_digit (take n r)) (every is_digit (drop n r)) (sym (every_append is_digit (take n r) (drop n r)) ∙ ap (every is_digit) (take-append-drop n r) ∙ h)
+    and_parts (every is_digit (take n r)) (every is_digit (drop n r)) (sym (list_all-append is_digit (take n r) (drop n r)) ∙ ap (every is_digit) (take-append-drop n r) ∙ h)
 
 -- one field more behind those before it
 pub one_field : (r : List ℕ) (a b : ℕ) → every is_digit r ≡ true → a ≤ b → b ≤ length r → take b r ≡ take a r ++ digits_of (value_of (between a b r)) (b - a)

@@ -1,11 +1,12 @@
 -- A closing record that is written is right and says its entries, and one that is right and says them was written from them.
 use Rattle.std.proofs.Common.{◌≡◌, ℕ, ◌+◌, ◌^◌, ◌<◌, true, eqb, List, ◌++◌, length, take, refl, ap, subst, arith}
 use Rattle.std.proofs.lemmas.Bool.{and_parts, and_from, eq-eqb, eqb-true}
+use Rattle.std.proofs.lemmas.List.Folds.{list_all-append}
 use Rattle.std.specs.List.{between}
 use Rattle.field.specs.Bytes.{is_digit, every}
 use Rattle.trailer.specs.Digits.{value_of, is_zero, digits_of, check_of}
 use Rattle.trailer.specs.Trailers.{closing_front, closing_of, is_checked, right_closing, closing_says}
-use Rattle.trailer.proofs.Numbers.{value-back, every_append, every-digit, zeros-value}
+use Rattle.trailer.proofs.Numbers.{value-back, every-digit, zeros-value}
 use Rattle.trailer.proofs.Checked.{checked_parts, checked-front, one_field, rechecked, field_small}
 
 -- What is written, by computation on the 80 digits.
@@ -28,7 +29,7 @@ module _ (entries last : ℕ) where
   length_closing = (places entries last).long
 
   every_front : every is_digit (closing_front entries last) ≡ true
-  every_front = simp (every_append, every-digit)
+  every_front = simp (list_all-append, every-digit)
 
   checked_closing : is_checked 98 (closing_of entries last) ≡ true
   unfolding closing_of

@@ -1,7 +1,8 @@
 -- Digits and the number that they write determine one another.
-use Rattle.std.proofs.Common.{◌≡◌, ℕ, zero, suc, ◌+◌, ◌*◌, ◌/◌, ◌%◌, ◌^◌, ◌<◌, ◌≤◌, Bool, true, false, ◌&&◌, eqb, leb, List, [], ◌∷◌, ◌++◌, length, get_or, take, sym, refl, ap, ◌∙◌, mul-le-mul_right, mul_assoc, mul_comm, pow-suc, arith}
+use Rattle.std.proofs.Common.{◌≡◌, ℕ, zero, suc, ◌+◌, ◌*◌, ◌/◌, ◌%◌, ◌^◌, ◌<◌, ◌≤◌, true, eqb, leb, List, [], ◌∷◌, ◌++◌, length, get_or, take, sym, refl, ap, ◌∙◌, mul-le-mul_right, mul_assoc, mul_comm, pow-suc, arith}
 use native.Mathlib.Nat.{pow-zero}
 use Rattle.std.proofs.lemmas.List.{take_more, take_all, length-take-le, length_push}
+use Rattle.std.proofs.lemmas.List.Folds.{list_all-append}
 use Rattle.std.proofs.lemmas.Bool.{and_parts, and_from, leb-true, eqb-true}
 use Rattle.std.proofs.lemmas.Bool.Decides.{nat_tests}
 use Rattle.field.specs.Bytes.{is_digit, every}
@@ -26,20 +27,12 @@ value-digits n (suc w) h =
 pub value-back : {part : List ℕ} (n w : ℕ) → part ≡ digits_of n w → n < 10 ^ w → value_of part ≡ n
 value-back n w e h = ap value_of e ∙ value-digits n w h
 
-pub every_append : (p : ℕ → Bool) (xs ys : List ℕ) → every p (xs ++ ys) ≡ (every p xs && every p ys)
-every_append p [] ys = refl
-every_append p (x ∷ xs) ys =
-    elim (p x) as (λ b. (b && every p (xs ++ ys)) ≡ ((b && every p xs) && every p ys)) [
-      | true ↦ every_append p xs ys
-      | false ↦ refl
-    ]
-
 pub every-digit : (n w : ℕ) → every is_digit (digits_of n w) ≡ true
 unfolding digits_of
 every-digit n zero = refl
 every-digit n (suc w) =
     let d : is_digit (48 + n % 10) ≡ true = grind (arith, nat_tests) in
-    every_append is_digit (digits_of (n / 10) w) ((48 + n % 10) ∷ []) ∙ and_from _ _ (every-digit (n / 10) w) (and_from _ _ d refl)
+    list_all-append is_digit (digits_of (n / 10) w) ((48 + n % 10) ∷ []) ∙ and_from _ _ (every-digit (n / 10) w) (and_from _ _ d refl)
 
 -- digits are those of the number that they write
 pub digits_value : (w : ℕ) (bs : List ℕ) → length bs ≡ w → every is_digit bs ≡ true → digits_of (value_of bs) w ≡ bs
@@ -50,7 +43,7 @@ digits_value (suc w) bs h a =
     let xs = take w bs in
     let b = get_or bs w 0 in
     let split : bs ≡ xs ++ b ∷ [] = sym (take_all (w + 1) bs (omega arith)) ∙ take_more bs w 0 (omega arith) in
-    let both = and_parts (every is_digit xs) (every is_digit (b ∷ [])) (sym (every_append is_digit xs (b ∷ [])) ∙ ap (every is_digit) (sym split) ∙ a) in
+    let both = and_parts (every is_digit xs) (every is_digit (b ∷ [])) (sym (list_all-append is_digit xs (b ∷ [])) ∙ ap (every is_digit) (sym split) ∙ a) in
     let d = and_parts (leb 48 b) (leb b 57) (and_parts (is_digit b) true both.1).0 in
     let low = leb-true 48 b d.0 in
     let high = leb-true b 57 d.1 in

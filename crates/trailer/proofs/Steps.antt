@@ -4,12 +4,6 @@ use native.Mathlib.Nat.{mul-add-mod_self_left}
 use Rattle.std.proofs.lemmas.List.{at_drop_more, at_drop_all, drop-set}
 use Rattle.trailer.specs.Digits.{value, value_after, value_of, digits_of}
 
-pub value-step : (xs : List ℕ) (n i : ℕ) → i < length xs → value_after n (drop i xs) ≡ value_after (n * 10 + value (get_or xs i 0)) (drop (i + 1) xs)
-value-step xs n i h = at_drop_more (value_after n) xs i 0 h
-
-pub value-end : (xs : List ℕ) (n i : ℕ) → length xs ≤ i → value_after n (drop i xs) ≡ n
-value-end xs n i h = at_drop_all (value_after n) xs i h
-
 pub value_append : (n : ℕ) (xs ys : List ℕ) → value_after n (xs ++ ys) ≡ value_after (value_after n xs) ys
 value_append n [] ys = refl
 value_append n (x ∷ xs) ys = value_append (n * 10 + value x) xs ys
@@ -27,11 +21,11 @@ value_mod m n (x ∷ xs) e = value_mod (m * 10 + value x) (n * 10 + value x) xs 
 pub mod_step : (xs : List ℕ) (r i : ℕ) → i < length xs → value_after r (drop i xs) % 97 ≡ value_after ((r * 10 + value (get_or xs i 0)) % 97) (drop (i + 1) xs) % 97
 mod_step xs r i h =
     let n = r * 10 + value (get_or xs i 0) in
-    ap (λ n. n % 97) (value-step xs r i h) ∙ value_mod n (n % 97) (drop (i + 1) xs) (omega arith)
+    ap (λ n. n % 97) (at_drop_more (value_after r) xs i 0 h) ∙ value_mod n (n % 97) (drop (i + 1) xs) (omega arith)
 
 pub remainder_end : (xs : List ℕ) (r i : ℕ) → length xs ≤ i → value_after r (drop i xs) % 97 ≡ value_of xs % 97 → r * 100 % 97 ≡ value_of (xs ++ 48 ∷ 48 ∷ []) % 97
 remainder_end xs r i h e =
-    let same : r % 97 ≡ value_of xs % 97 = ap (λ n. n % 97) (sym (value-end xs r i h)) ∙ e in
+    let same : r % 97 ≡ value_of xs % 97 = ap (λ n. n % 97) (sym (at_drop_all (value_after r) xs i h)) ∙ e in
     let two : r * 100 ≡ (r * 10 + 0) * 10 + 0 = omega arith in
     ap (λ n. n % 97) two ∙ value_mod r (value_of xs) (48 ∷ 48 ∷ []) same ∙ ap (λ n. n % 97) (sym (value_append 0 xs (48 ∷ 48 ∷ [])))
 

@@ -1,13 +1,15 @@
 -- A trailer that is written is read back, and one that is read was written.
-use Rattle.std.proofs.Common.{◌≡◌, ℕ, ◌+◌, Bool, true, false, cond, ◌&&◌, List, ◌++◌, length, take, Some, None, sym, refl, ap, ◌∙◌, subst, arith}
+use Rattle.std.proofs.Common.{◌≡◌, ℕ, ◌+◌, true, ◌&&◌, List, ◌++◌, length, take, Some, None, sym, refl, ap, ◌∙◌, subst, arith}
 use Rattle.std.proofs.lemmas.Bool.{and_parts, and_from, cond-true, eq-eqb, eqb-true}
+use Rattle.std.proofs.lemmas.List.Folds.{list_all-append}
+use Rattle.std.proofs.lemmas.Option.{cond_some}
 use Rattle.std.specs.List.{between}
 use Rattle.field.specs.Bytes.{is_digit, every}
 use Rattle.trailer.specs.declared.layout.Trailer.{Trailer}
 use Rattle.trailer.specs.Digits.{value_of, digits_of, check_of}
 use Rattle.trailer.specs.Trailers.{trailer_front, trailer_of, is_checked, fields_of, is_placed, read_trailer}
 use Rattle.trailer.specs.Laws.{Small}
-use Rattle.trailer.proofs.Numbers.{value-back, every_append, every-digit}
+use Rattle.trailer.proofs.Numbers.{value-back, every-digit}
 use Rattle.trailer.proofs.Checked.{checked_parts, checked-front, one_field, rechecked, field_small}
 
 -- What is written, by computation on the 80 digits.
@@ -46,7 +48,7 @@ read_right r own t h e p =
 
 module _ (t : Trailer) where
   every_front : every is_digit (trailer_front t) ≡ true
-  every_front = simp (every_append, every-digit)
+  every_front = simp (list_all-append, every-digit)
 
   checked-trailer : is_checked 99 (trailer_of t) ≡ true
   unfolding trailer_of
@@ -71,10 +73,6 @@ module _ (t : Trailer) where
   back own s p = read_right (trailer_of t) own t checked-trailer (same-fields s) p
 
 -- What is read.
-
-there : {A : Type 0} (b : Bool) (x y : A) → cond b (Some x) None ≡ Some y → (b ≡ true) × (x ≡ y)
-there true x y e = (refl, cc)
-there false x y e = let z : ◌≡◌ {A = ℕ} 0 1 = cc in absurd (omega arith)
 
 -- field by field from the front
 trailer_again : (r : List ℕ) → is_checked 99 r ≡ true → length r ≡ 80 → r ≡ trailer_of (fields_of r)
@@ -109,6 +107,6 @@ small_fields r long = record {
 pub only : (r : List ℕ) (own : ℕ) (t : Trailer) → length r ≡ 80 → read_trailer r own ≡ Some t → (r ≡ trailer_of t) × Small t × (t.previous + t.records + 1 ≡ own)
 unfolding read_trailer
 only r own t long e =
-    let c = there (is_checked 99 r && is_placed (fields_of r) own) (fields_of r) t e in
+    let c = cond_some (is_checked 99 r && is_placed (fields_of r) own) (fields_of r) t e in
     let b = and_parts (is_checked 99 r) (is_placed (fields_of r) own) c.0 in
     subst (λ t. (r ≡ trailer_of t) × Small t × (t.previous + t.records + 1 ≡ own)) c.1 (trailer_again r b.0 long, small_fields r long, eqb-true _ _ b.1)

@@ -6,10 +6,11 @@ ghost use Rattle.trailer.specs.Digits.{value, value_of, is_zero, digits_of, chec
 fn value(b: u8) -> u64
     ensures { result ≡ value b }
 {
-    b.saturating_sub(b'0').min(9) as u64
+    u64::from(b.saturating_sub(b'0').min(9))
 }
 
 // The number that up to 18 digits write, which a u64 always holds.
+#[tactic(auto, using(field::proofs::Steps::ten_room))]
 pub fn value_of(part: &[u8]) -> u64
     requires { length part.now ≤ 18 }
     ensures value { result ≡ value_of part.now }
@@ -25,16 +26,12 @@ pub fn value_of(part: &[u8]) -> u64
 pub fn zeros(part: &[u8]) -> bool
     ensures { result ≡ every is_zero part.now }
 {
-    for b in part {
-        if *b != b'0' {
-            return false;
-        }
-    }
-    true
+    part.iter().all(|b| *b == b'0')
 }
 
 // The remainder, on division by 97, of digits followed by 00. No number holds so many digits, so only the remainder is
 // carried along.
+#[tactic(auto, using(crate::proofs::Steps::mod_step, crate::proofs::Steps::remainder_end))]
 fn remainder(front: &[u8]) -> u64
     ensures { result ≡ value_of (front.now ++ 48 ∷ 48 ∷ []) % 97 }
 {
@@ -51,7 +48,9 @@ pub fn check_of(front: &[u8]) -> u64
     98 - remainder(front)
 }
 
-// Writes a number in as many digits as there is room for, from the last one on.
+// Writes a number in as many digits as there is room for, from the last one on. By index, since nothing is known afterwards of
+// a slice that was written through `iter_mut().rev()`.
+#[tactic(auto, using(crate::proofs::Steps::digits_step), unfolding(crate::specs::Digits::digits_of))]
 fn write_digits(n: u64, part: &mut [u8])
     ensures { part.new ≡ digits_of n (length part.old) }
 {
@@ -64,6 +63,7 @@ fn write_digits(n: u64, part: &mut [u8])
 
 // Writes a number in the digits of a record from index `from` to index `to`. The second clause is for a record that is
 // written from its first digit to its last: only what is written already counts there.
+#[tactic(auto, using(crate::proofs::Numbers::length_digits))]
 pub fn put(out: &mut [u8; 80], from: usize, to: usize, n: u64)
     requires { (from ≤ to) × (to ≤ 80) }
     ensures whole { out.new ≡ take from out.old ++ digits_of n (to - from) ++ drop to out.old }

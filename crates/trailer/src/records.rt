@@ -9,7 +9,13 @@ use crate::digits::{check_of, put, value_of, zeros};
 use crate::layout::{Totals, Trailer};
 use field::digits;
 
+// The first two digits of a record say which of the two it is.
+const TRAILER_CODE: u64 = 99;
+
+const CLOSING_CODE: u64 = 98;
+
 // What holds of all trailers and closing records, proved once; there is nothing to run.
+#[tactic(auto, using(crate::proofs::TrailerLaws::laws))]
 fn trailer_laws()
     ensures { TrailerLaws }
 {}
@@ -25,7 +31,7 @@ fn put_check(out: &mut [u8; 80])
 fn put_fields(t: &Trailer, out: &mut [u8; 80])
     ensures { take 78 out.new ≡ trailer_front t.now }
 {
-    put(out, 0, 2, 99);
+    put(out, 0, 2, TRAILER_CODE);
     put(out, 2, 10, t.records);
     put(out, 10, 18, t.entry);
     put(out, 18, 26, t.previous);
@@ -37,6 +43,7 @@ fn put_fields(t: &Trailer, out: &mut [u8; 80])
 
 // Writes a trailer as it stands on a shelf. A number that is too large for its digits loses the first ones: the laws say
 // for which trailers nothing is lost.
+#[tactic(auto, unfolding(crate::specs::Trailers::trailer_of))]
 pub fn write_trailer(t: &Trailer, out: &mut [u8; 80])
     ensures bytes { out.new ≡ trailer_of t.now }
     ensures laws { TrailerLaws }
@@ -49,13 +56,14 @@ pub fn write_trailer(t: &Trailer, out: &mut [u8; 80])
 fn put_closing(entries: u64, last: u64, out: &mut [u8; 80])
     ensures { take 78 out.new ≡ closing_front entries last }
 {
-    put(out, 0, 2, 98);
+    put(out, 0, 2, CLOSING_CODE);
     put(out, 2, 10, entries);
     put(out, 10, 18, last);
     put(out, 18, 78, 0);
 }
 
 // Writes the closing record of a shelf with so many entries, whose last trailer has the shelf number `last`.
+#[tactic(auto, unfolding(crate::specs::Trailers::closing_of))]
 pub fn write_closing(entries: u64, last: u64, out: &mut [u8; 80])
     ensures { out.new ≡ closing_of entries last }
 {
@@ -70,18 +78,6 @@ fn is_checked(code: u64, item: &[u8; 80]) -> bool
     digits(&item[..])
         && value_of(&item[0..2]) == code
         && value_of(&item[78..80]) == check_of(&item[0..78])
-}
-
-fn is_trailer(item: &[u8; 80]) -> bool
-    ensures { result ≡ is_checked 99 item.now }
-{
-    is_checked(99, item)
-}
-
-fn is_closing(item: &[u8; 80]) -> bool
-    ensures { result ≡ is_checked 98 item.now }
-{
-    is_checked(98, item)
 }
 
 // The numbers that stand where a trailer has its fields, whatever the record. The bounds are for the sum of two of them.
@@ -111,16 +107,17 @@ fn is_placed(t: &Trailer, own: usize) -> bool
 
 // The trailer that the record with the shelf number `own` is; none where it is not a right one. Whatever the record,
 // reading and writing undo one another, as the laws say.
+#[tactic(auto, unfolding(crate::specs::Trailers::read_trailer))]
 pub fn read_trailer(item: &[u8; 80], own: usize) -> Option<Trailer>
     ensures answer { result ≡ read_trailer item.now own }
     ensures laws { TrailerLaws }
 {
     trailer_laws();
-    if !is_trailer(item) {
+    if !is_checked(TRAILER_CODE, item) {
         return None;
     }
     let t = fields(item);
-    if is_placed(&t, own) { Some(t) } else { None }
+    is_placed(&t, own).then_some(t)
 }
 
 // Whether a closing record names the record before it, where it has the shelf number `own` itself.
@@ -131,10 +128,11 @@ fn is_behind_last(item: &[u8; 80], own: usize) -> bool
 }
 
 // Whether the record with the shelf number `own` is a right closing record.
+#[tactic(auto, unfolding(crate::specs::Trailers::right_closing))]
 pub fn is_right_closing(item: &[u8; 80], own: usize) -> bool
     ensures { result ≡ right_closing item.now own }
 {
-    is_closing(item) && is_behind_last(item, own)
+    is_checked(CLOSING_CODE, item) && is_behind_last(item, own)
 }
 
 fn has_entries(item: &[u8; 80], entries: usize) -> bool
@@ -150,6 +148,7 @@ fn has_zeros(item: &[u8; 80]) -> bool
 }
 
 // Whether a closing record has this number of entries, and its zeros.
+#[tactic(auto, unfolding(crate::specs::Trailers::closing_says))]
 pub fn closing_says(item: &[u8; 80], entries: usize) -> bool
     ensures { result ≡ closing_says item.now entries }
 {

@@ -1,7 +1,8 @@
 // Whole files, each record written as a letter.
 use file::check;
-use manual::{FileFault, refusal_of_file};
+use manual::FileFault;
 use record::{Bare, End, House};
+use refusal::Refusal;
 use std::alloc::{AllocError, Global};
 use std::test::Fail;
 use sums::Row;
@@ -172,12 +173,10 @@ const LINES: [(u8, &[u8]); 40] = [
 
 // The record of a letter; a line that is no record for any other, as `!`.
 fn line(letter: u8) -> &'static [u8] {
-    for (named, bytes) in LINES {
-        if named == letter {
-            return bytes;
-        }
+    match LINES.iter().find(|(named, _)| *named == letter) {
+        Some((_, bytes)) => *bytes,
+        None => b"no record\n",
     }
-    b"no record\n"
 }
 
 fn file_of(heap: Global, letters: &[u8]) -> Result<Vec<u8>, AllocError> {
@@ -192,109 +191,109 @@ fn file_of(heap: Global, letters: &[u8]) -> Result<Vec<u8>, AllocError> {
 fn told(answer: Result<End, FileFault>) -> (u8, usize) {
     match answer {
         Ok(_) => (0, 0),
-        Err(fault) => (refusal_of_file(fault).number, fault.number),
+        Err(fault) => (Refusal::from(fault).number(), fault.number),
     }
+}
+
+// The edition under which a file is checked.
+#[derive(Clone, Copy, Debug, PartialEq, Eq)]
+enum Under {
+    Bare,
+    House,
 }
 
 fn checked(
     heap: Global,
     bytes: &[u8],
     payers: usize,
-    bare: bool,
+    under: Under,
 ) -> Result<(u8, usize), AllocError> {
-    let blank = Row {
-        key: 0u64,
-        added: 0,
-        taken: 0,
-    };
-    let mut table = vec![in heap; blank; payers]?;
-    let answer = if bare {
-        check(bytes, &Bare, &mut table)
-    } else {
-        check(bytes, &House, &mut table)
-    };
-    Ok(told(answer))
+    let mut table = vec![in heap; Row::zero(); payers]?;
+    Ok(told(match under {
+        Under::Bare => check(bytes, &Bare, &mut table),
+        Under::House => check(bytes, &House, &mut table),
+    }))
 }
 
-// letters, rows of the payer table, under the bare edition (else house), refusal and record (zeros where accepted)
-const CASES: [(&[u8], usize, bool, (u8, usize)); 60] = [
-    (b"", 4, false, (12, 1)),
-    (b"SOPDE", 4, false, (0, 0)),
-    (b"!", 4, false, (1, 1)),
-    (b"SOPDE!", 4, false, (1, 6)),
-    (b"Z", 4, false, (2, 1)),
-    (b"SOPDEZ", 4, false, (2, 6)),
-    (b"O", 4, false, (3, 1)),
-    (b"u", 4, false, (3, 1)),
-    (b"r", 4, false, (3, 1)),
-    (b"SOPDES", 4, false, (3, 6)),
-    (b"l", 4, false, (4, 1)),
-    (b"SOPDh", 4, false, (4, 5)),
-    (b"SOPNE", 4, false, (4, 4)),
-    (b"SOPBE", 4, false, (0, 0)),
-    (b"SOPy", 4, false, (5, 4)),
-    (b"SOPz", 4, false, (5, 4)),
-    (b"SOPDOPy", 4, false, (5, 7)),
+// letters, rows of the payer table, the edition, refusal and record (zeros where accepted)
+const CASES: [(&[u8], usize, Under, (u8, usize)); 60] = [
+    (b"", 4, Under::House, (12, 1)),
+    (b"SOPDE", 4, Under::House, (0, 0)),
+    (b"!", 4, Under::House, (1, 1)),
+    (b"SOPDE!", 4, Under::House, (1, 6)),
+    (b"Z", 4, Under::House, (2, 1)),
+    (b"SOPDEZ", 4, Under::House, (2, 6)),
+    (b"O", 4, Under::House, (3, 1)),
+    (b"u", 4, Under::House, (3, 1)),
+    (b"r", 4, Under::House, (3, 1)),
+    (b"SOPDES", 4, Under::House, (3, 6)),
+    (b"l", 4, Under::House, (4, 1)),
+    (b"SOPDh", 4, Under::House, (4, 5)),
+    (b"SOPNE", 4, Under::House, (4, 4)),
+    (b"SOPBE", 4, Under::House, (0, 0)),
+    (b"SOPy", 4, Under::House, (5, 4)),
+    (b"SOPz", 4, Under::House, (5, 4)),
+    (b"SOPDOPy", 4, Under::House, (5, 7)),
     (
         b"SOPiiiiiiiiiiiiiiiiiiiiiiiiiiiiiiiiiiiiiiiiiiiiiiiiiiiiiiiiiiiiiiiiiiiiiiiiiiiiiiiiiiiiiiiiiiiiiiiiiiiDE",
         4,
-        false,
+        Under::House,
         (0, 0),
     ),
     (
         b"SOPiiiiiiiiiiiiiiiiiiiiiiiiiiiiiiiiiiiiiiiiiiiiiiiiiiiiiiiiiiiiiiiiiiiiiiiiiiiiiiiiiiiiiiiiiiiiiiiiiiii",
         4,
-        false,
+        Under::House,
         (6, 103),
     ),
-    (b"SOPDE", 0, false, (7, 3)),
-    (b"SOPQ", 1, false, (7, 4)),
-    (b"SOPDOPDV", 1, false, (0, 0)),
-    (b"SOPDOPQGV", 1, false, (7, 7)),
-    (b"SOePD", 4, false, (8, 5)),
-    (b"SOQePM", 4, false, (8, 6)),
-    (b"SOdPFU", 4, false, (0, 0)),
-    (b"SOPDOQePM", 4, false, (8, 9)),
-    (b"SOPHE", 4, false, (9, 4)),
-    (b"SOPuHE", 4, false, (9, 5)),
-    (b"SOPuDE", 4, false, (0, 0)),
-    (b"SOPJE", 4, false, (9, 4)),
-    (b"SOPCE", 4, false, (9, 4)),
-    (b"SOPtCE", 4, false, (9, 5)),
-    (b"SOPDOPHV", 4, false, (9, 7)),
-    (b"SOPDX", 4, false, (10, 5)),
-    (b"SOPDY", 4, false, (10, 5)),
-    (b"SOPxDE", 4, false, (10, 6)),
-    (b"SOPxDW", 4, false, (0, 0)),
-    (b"S", 4, false, (12, 2)),
-    (b"SOPD", 4, false, (12, 5)),
-    (b"SR", 4, false, (13, 2)),
-    (b"SOPTDE", 4, false, (13, 4)),
-    (b"SROPDE", 4, true, (0, 0)),
-    (b"St", 4, false, (14, 2)),
-    (b"SOr", 4, false, (14, 3)),
-    (b"SOR", 4, false, (14, 3)),
-    (b"SOPDEr", 4, false, (14, 6)),
-    (b"SOPDEr", 4, true, (0, 0)),
-    (b"SrOPtDrE", 4, false, (0, 0)),
-    (b"SOPaubDE", 4, false, (0, 0)),
-    (b"SOPatbDE", 4, false, (0, 0)),
-    (b"SOPaDE", 4, false, (3, 5)),
-    (b"SOPbDE", 4, false, (3, 4)),
-    (b"SOPxinabcDW", 4, false, (0, 0)),
-    (b"SOPcn", 4, false, (3, 5)),
-    (b"S7O8P9DE9", 4, false, (0, 0)),
-    (b"SOdDE", 4, false, (3, 4)),
-    (b"SODE", 4, false, (3, 3)),
-    (b"SE", 4, false, (3, 2)),
-    (b"SOPDOPDE", 4, false, (10, 8)),
+    (b"SOPDE", 0, Under::House, (7, 3)),
+    (b"SOPQ", 1, Under::House, (7, 4)),
+    (b"SOPDOPDV", 1, Under::House, (0, 0)),
+    (b"SOPDOPQGV", 1, Under::House, (7, 7)),
+    (b"SOePD", 4, Under::House, (8, 5)),
+    (b"SOQePM", 4, Under::House, (8, 6)),
+    (b"SOdPFU", 4, Under::House, (0, 0)),
+    (b"SOPDOQePM", 4, Under::House, (8, 9)),
+    (b"SOPHE", 4, Under::House, (9, 4)),
+    (b"SOPuHE", 4, Under::House, (9, 5)),
+    (b"SOPuDE", 4, Under::House, (0, 0)),
+    (b"SOPJE", 4, Under::House, (9, 4)),
+    (b"SOPCE", 4, Under::House, (9, 4)),
+    (b"SOPtCE", 4, Under::House, (9, 5)),
+    (b"SOPDOPHV", 4, Under::House, (9, 7)),
+    (b"SOPDX", 4, Under::House, (10, 5)),
+    (b"SOPDY", 4, Under::House, (10, 5)),
+    (b"SOPxDE", 4, Under::House, (10, 6)),
+    (b"SOPxDW", 4, Under::House, (0, 0)),
+    (b"S", 4, Under::House, (12, 2)),
+    (b"SOPD", 4, Under::House, (12, 5)),
+    (b"SR", 4, Under::House, (13, 2)),
+    (b"SOPTDE", 4, Under::House, (13, 4)),
+    (b"SROPDE", 4, Under::Bare, (0, 0)),
+    (b"St", 4, Under::House, (14, 2)),
+    (b"SOr", 4, Under::House, (14, 3)),
+    (b"SOR", 4, Under::House, (14, 3)),
+    (b"SOPDEr", 4, Under::House, (14, 6)),
+    (b"SOPDEr", 4, Under::Bare, (0, 0)),
+    (b"SrOPtDrE", 4, Under::House, (0, 0)),
+    (b"SOPaubDE", 4, Under::House, (0, 0)),
+    (b"SOPatbDE", 4, Under::House, (0, 0)),
+    (b"SOPaDE", 4, Under::House, (3, 5)),
+    (b"SOPbDE", 4, Under::House, (3, 4)),
+    (b"SOPxinabcDW", 4, Under::House, (0, 0)),
+    (b"SOPcn", 4, Under::House, (3, 5)),
+    (b"S7O8P9DE9", 4, Under::House, (0, 0)),
+    (b"SOdDE", 4, Under::House, (3, 4)),
+    (b"SODE", 4, Under::House, (3, 3)),
+    (b"SE", 4, Under::House, (3, 2)),
+    (b"SOPDOPDE", 4, Under::House, (10, 8)),
 ];
 
 #[test]
 fn cases(rt: HostRuntime) -> Result<(), Fail> {
-    for (letters, payers, bare, answer) in CASES {
+    for (letters, payers, under, answer) in CASES {
         let bytes = file_of(rt.alloc(), letters)?;
-        assert_eq!(rt; checked(rt.alloc(), &bytes, payers, bare)?, answer);
+        assert_eq!(rt; checked(rt.alloc(), &bytes, payers, under)?, answer);
     }
     Ok(())
 }
@@ -342,7 +341,7 @@ const LONG: [(&[u8], usize, &[u8], usize, (u8, usize)); 17] = [
 fn long_files(rt: HostRuntime) -> Result<(), Fail> {
     for (first, more, last, payers, answer) in LONG {
         let bytes = long_file(rt.alloc(), first, more, last)?;
-        assert_eq!(rt; checked(rt.alloc(), &bytes, payers, false)?, answer);
+        assert_eq!(rt; checked(rt.alloc(), &bytes, payers, Under::House)?, answer);
     }
     Ok(())
 }

@@ -1,8 +1,8 @@
 // The worked examples that concern files, over one file of five records.
 use field::ReferenceForm;
 use file::check;
-use manual::refusal_of_file;
 use record::{Bare, Class, Core, classify};
+use refusal::Refusal;
 use std::alloc::{AllocError, Global};
 use std::test::Fail;
 use sums::Row;
@@ -45,18 +45,14 @@ fn file_of(heap: Global, records: &[&[u8; 80]]) -> Result<Vec<u8>, AllocError> {
 
 // Refusal and record, or zeros and the four counts as the end record has them.
 fn told(bytes: &[u8]) -> (u8, usize, [u64; 4]) {
-    let mut payers = [Row {
-        key: 0u64,
-        added: 0,
-        taken: 0,
-    }; 1];
+    let mut payers = [Row::zero()];
     match check(bytes, &Bare, &mut payers) {
         Ok(end) => (
             0,
             0,
             [end.payments, end.deductions, end.extras, end.deposits],
         ),
-        Err(fault) => (refusal_of_file(fault).number, fault.number, [0; 4]),
+        Err(fault) => (Refusal::from(fault).number(), fault.number, [0; 4]),
     }
 }
 
@@ -83,14 +79,9 @@ fn files(rt: HostRuntime) -> Result<(), Fail> {
 
 #[test]
 fn reference_begins(rt: HostRuntime) -> Result<(), Fail> {
-    match classify(PAYMENT, &Bare) {
-        Class::Core(_, Ok(Core::Payment(t))) => match t.reference {
-            ReferenceForm::Numeric(position) => {
-                assert_eq!(rt; position, 34);
-                Ok(())
-            },
-            _ => Err(Fail::new("another form")),
-        },
-        _ => Err(Fail::new("no payment")),
-    }
+    let Class::Core(_, Ok(Core::Payment(t))) = classify(PAYMENT, &Bare) else {
+        return Err(Fail::new("no payment"));
+    };
+    assert_eq!(rt; t.reference, ReferenceForm::Numeric(34));
+    Ok(())
 }

@@ -74,51 +74,87 @@ fn currencies(rt: HostRuntime) {
     }
 }
 
-// The form by number: a numeric one by its position, another by 100 and its code, none by 0.
-fn told(form: Option<ReferenceForm>) -> u8 {
-    match form {
-        None => 0,
-        Some(ReferenceForm::Absent) => 99,
-        Some(ReferenceForm::Blank) => 100,
-        Some(ReferenceForm::BlankPaper) => 101,
-        Some(ReferenceForm::Numeric(position)) => position,
-        Some(ReferenceForm::Unchecked) => 103,
-        Some(ReferenceForm::Confirmed) => 104,
-        Some(ReferenceForm::Rejected) => 105,
-    }
-}
-
 // code, reference, what a payment reads, what an extra reference reads
-const REFERENCES: [(u8, [u8; 25], u8, u8); 21] = [
-    (b'0', *b"                         ", 100, 0),
-    (b'0', *b"                        x", 0, 0),
-    (b'1', *b"                         ", 101, 0),
-    (b'1', *b"x                        ", 0, 0),
-    (b'2', *b"1234567890123456789012345", 13, 13),
-    (b'2', *b"                        7", 37, 37),
-    (b'2', *b"                     1230", 34, 34),
-    (b'2', *b"                         ", 0, 0),
-    (b'2', *b"                    1 230", 0, 0),
-    (b'2', *b"1230                     ", 0, 0),
-    (b'2', *b"                    123x ", 0, 0),
-    (b'3', *b"                         ", 103, 0),
-    (b'3', *b"Grave 17, third row      ", 103, 0),
-    (b'3', *b"Grave 17, third row     \x7f", 0, 0),
-    (b'4', *b"x                        ", 104, 104),
-    (b'4', *b" x                       ", 0, 0),
-    (b'4', *b"                         ", 0, 0),
-    (b'5', *b"                         ", 105, 105),
-    (b'5', *b"unreadable               ", 105, 105),
-    (b'6', *b"                         ", 0, 0),
-    (b'9', *b"                         ", 0, 0),
+const REFERENCES: [(u8, [u8; 25], Option<ReferenceForm>, Option<ReferenceForm>); 21] = [
+    (
+        b'0',
+        *b"                         ",
+        Some(ReferenceForm::Blank),
+        None,
+    ),
+    (b'0', *b"                        x", None, None),
+    (
+        b'1',
+        *b"                         ",
+        Some(ReferenceForm::BlankPaper),
+        None,
+    ),
+    (b'1', *b"x                        ", None, None),
+    (
+        b'2',
+        *b"1234567890123456789012345",
+        Some(ReferenceForm::Numeric(13)),
+        Some(ReferenceForm::Numeric(13)),
+    ),
+    (
+        b'2',
+        *b"                        7",
+        Some(ReferenceForm::Numeric(37)),
+        Some(ReferenceForm::Numeric(37)),
+    ),
+    (
+        b'2',
+        *b"                     1230",
+        Some(ReferenceForm::Numeric(34)),
+        Some(ReferenceForm::Numeric(34)),
+    ),
+    (b'2', *b"                         ", None, None),
+    (b'2', *b"                    1 230", None, None),
+    (b'2', *b"1230                     ", None, None),
+    (b'2', *b"                    123x ", None, None),
+    (
+        b'3',
+        *b"                         ",
+        Some(ReferenceForm::Unchecked),
+        None,
+    ),
+    (
+        b'3',
+        *b"Grave 17, third row      ",
+        Some(ReferenceForm::Unchecked),
+        None,
+    ),
+    (b'3', *b"Grave 17, third row     \x7f", None, None),
+    (
+        b'4',
+        *b"x                        ",
+        Some(ReferenceForm::Confirmed),
+        Some(ReferenceForm::Confirmed),
+    ),
+    (b'4', *b" x                       ", None, None),
+    (b'4', *b"                         ", None, None),
+    (
+        b'5',
+        *b"                         ",
+        Some(ReferenceForm::Rejected),
+        Some(ReferenceForm::Rejected),
+    ),
+    (
+        b'5',
+        *b"unreadable               ",
+        Some(ReferenceForm::Rejected),
+        Some(ReferenceForm::Rejected),
+    ),
+    (b'6', *b"                         ", None, None),
+    (b'9', *b"                         ", None, None),
 ];
 
-fn of_payment(code: u8, part: &[u8; 25]) -> u8 {
-    told(read_reference(code, part))
+fn of_payment(code: u8, part: &[u8; 25]) -> Option<ReferenceForm> {
+    read_reference(code, part)
 }
 
-fn of_extra(code: u8, part: &[u8; 25]) -> u8 {
-    told(read_extra_reference(code, part))
+fn of_extra(code: u8, part: &[u8; 25]) -> Option<ReferenceForm> {
+    read_extra_reference(code, part)
 }
 
 #[test]

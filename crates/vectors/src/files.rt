@@ -1,7 +1,7 @@
 // Records of a file one by one, with the refusal where one cannot be read by itself.
 use file::read_one;
-use manual::refusal_of_file;
 use record::House;
+use refusal::Refusal;
 use std::test::Fail;
 
 const UNKNOWN: &[u8] =
@@ -42,7 +42,7 @@ fn refusals(rt: HostRuntime) -> Result<(), Fail> {
         match read_one(bytes, 5, &House) {
             Ok(_) => return Err(Fail::new("read")),
             Err(fault) => {
-                let told = refusal_of_file(fault).to_string(rt.alloc())?;
+                let told = Refusal::from(fault).to_string(rt.alloc())?;
                 assert_eq!(rt; told.as_str(), words);
             }
         }

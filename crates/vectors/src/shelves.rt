@@ -5,7 +5,8 @@ ghost use Rattle.shelf.specs.Runs.{lay_answer, laid};
 ghost use Rattle.vectors.specs.Alike.{alike, whole_alike, inside_alike, bound_alike};
 ghost use Rattle.vectors.specs.Told.{told_of};
 
-use shelf::{Joined, MemoryShelf, Shelf, ShelfFault, lay, read_range, refusal};
+use refusal::Refusal;
+use shelf::{Joined, MemoryShelf, Shelf, ShelfFault, lay, read_range};
 
 // A full shelf of `count` records whose bytes are all `byte`: its limit takes no memory.
 #[derive(Clone, Copy)]
@@ -51,7 +52,7 @@ fn told(answer: Result<(), ShelfFault>) -> (u8, usize)
     let Err(fault) = answer else {
         return (0, 0);
     };
-    let number = refusal(fault).number;
+    let number = Refusal::from(fault).number();
     match fault {
         ShelfFault::Full(count) => (number, count),
         ShelfFault::NoRecord(n) => (number, n),

@@ -1,10 +1,10 @@
 // Tables of sums, by example.
 ghost use Rattle.std.specs.Prelude.{◌≡◌, ◌≤◌, [], length, IfSome, ◌==◌};
 ghost use Rattle.sums.specs.Table.{in_use};
-ghost use Rattle.sums.specs.Laws.{run};
+ghost use Rattle.sums.specs.Laws.{Entered, run};
 ghost use Rattle.std.proofs.Common.{rules};
 
-use sums::{Key, Row, covered, empty, enter, find};
+use sums::{Key, Row, Table, covered, empty, find};
 
 // A key that is looked up by its number alone.
 #[derive(Clone, Copy)]
@@ -29,26 +29,30 @@ impl Key for Noted {
     }
 }
 
+// Enters an entry. Answers how many rows are then in use, or None if it was refused.
+fn enter<K: Key>(table: &mut Table<K>, key: K, added: u64, taken: u64) -> Option<usize>
+    ensures used { IfSome result (λ n. n ≡ table.new.used) }
+    ensures entered { Entered K.same table.old.used key added taken table.old.rows.now table.new.rows.now result }
+    ensures room { length table.new.rows.now ≡ length table.old.rows.now }
+    ensures lender { table.new.rows.ghost_name ≡ table.old.rows.ghost_name }
+{
+    match table.enter(Row { key, added, taken }) {
+        Ok(()) => Some(table.rows().len()),
+        Err(_) => None,
+    }
+}
+
 // Enters all of them into an empty table. Answers how many rows are then in use, or None if one was refused.
 fn enter_all<K: Key>(rows: &mut [Row<K>], entries: &[Row<K>]) -> Option<usize>
     ensures within { IfSome result (λ n. n ≤ length rows.new) }
     ensures held { in_use rows.new result ≡ run K.same (length rows.old) [] entries.now }
 {
-    let mut used = 0;
-    for e in entries {
-        match enter(rows, used, e.key, e.added, e.taken) {
-            Some(more) => used = more,
-            None => return None,
-        }
+    let mut table = Table::new(rows);
+    for entry in entries {
+        enter(&mut table, entry.key, entry.added, entry.taken)?;
     }
-    Some(used)
+    Some(table.rows().len())
 }
-
-const BLANK: Row<u64> = Row {
-    key: 0,
-    added: 0,
-    taken: 0,
-};
 
 const ENTRIES: [Row<u64>; 5] = [
     Row {
@@ -94,7 +98,7 @@ const ROOMS: [(usize, usize, Option<usize>); 8] = [
 fn rooms(rt: HostRuntime) {
     for (room, count, answer) in ROOMS {
         assert!(rt; room <= 3 && count <= 5);
-        let mut rows = [BLANK; 3];
+        let mut rows = [Row::zero(); 3];
         assert_eq!(rt; enter_all(&mut rows[0..room], &ENTRIES[0..count]), answer);
     }
 }
@@ -102,17 +106,17 @@ fn rooms(rt: HostRuntime) {
 // Rows stand in order of first appearance, with the sums of their entries, and the free row is as it was.
 #[test]
 fn sums_in_order(rt: HostRuntime) {
-    let mut rows = [BLANK; 4];
+    let mut rows = [Row::zero(); 4];
     assert_eq!(rt; enter_all(&mut rows, &ENTRIES), Some(3));
     let wanted = [(9, 25, 7), (3, 2, 2), (5, 0, 0), (0, 0, 0)];
-    for i in 0..4 {
-        assert_eq!(rt; (rows[i].key, rows[i].added, rows[i].taken), wanted[i]);
+    for (row, sums) in rows.iter().zip(&wanted) {
+        assert_eq!(rt; (row.key, row.added, row.taken), *sums);
     }
     for (i, key) in [9, 3, 5].iter().enumerate() {
-        assert_eq!(rt; find(&rows, 3, key), Some(i));
+        assert_eq!(rt; find(&rows[..3], key), Some(i));
     }
-    assert_eq!(rt; find(&rows, 3, &4), None);
-    assert_eq!(rt; find(&rows, 2, &5), None, "a row that is not in use");
+    assert_eq!(rt; find(&rows[..3], &4), None);
+    assert_eq!(rt; find(&rows[..2], &5), None, "a row that is not in use");
 }
 
 // The first of two equal keys stays, though they are different values.
@@ -131,23 +135,26 @@ fn equal_keys(rt: HostRuntime) {
         added: 0,
         taken: 0,
     }; 2];
-    assert_eq!(rt; enter(&mut rows, 0, first, 1, 0), Some(1));
-    assert_eq!(rt; enter(&mut rows, 1, second, 2, 5), Some(1));
+    let mut table = Table::new(&mut rows);
+    assert_eq!(rt; enter(&mut table, first, 1, 0), Some(1));
+    assert_eq!(rt; enter(&mut table, second, 2, 5), Some(1));
+    assert_eq!(rt; find(table.rows(), &second), Some(0));
     assert_eq!(rt;
         (rows[0].key.note, rows[0].added, rows[0].taken),
         (10, 3, 5)
     );
-    assert_eq!(rt; find(&rows, 1, &second), Some(0));
 }
 
 // A column stops at the largest number, and nothing is refused for it.
 #[test]
 fn saturates(rt: HostRuntime) {
-    let mut rows = [BLANK; 1];
-    assert_eq!(rt; enter(&mut rows, 0, 7, u64::MAX - 1, 3), Some(1));
-    assert_eq!(rt; enter(&mut rows, 1, 7, 1, u64::MAX), Some(1));
+    let mut rows = [Row::zero(); 1];
+    let mut table = Table::new(&mut rows);
+    assert_eq!(rt; enter(&mut table, 7, u64::MAX - 1, 3), Some(1));
+    assert_eq!(rt; enter(&mut table, 7, 1, u64::MAX), Some(1));
     assert_eq!(rt; (rows[0].added, rows[0].taken), (u64::MAX, u64::MAX));
-    assert_eq!(rt; enter(&mut rows, 1, 7, 1, 0), Some(1));
+    let mut table = Table::with_used(&mut rows, 1);
+    assert_eq!(rt; enter(&mut table, 7, 1, 0), Some(1));
     assert_eq!(rt; rows[0].added, u64::MAX);
 }
 
@@ -166,10 +173,17 @@ fn refusal(rt: HostRuntime) {
             taken: 1,
         },
     ];
-    assert_eq!(rt; enter(&mut rows, 2, 9, 1, 1), None);
+    let mut table = Table::with_used(&mut rows, 2);
+    assert_eq!(rt; enter(&mut table, 9, 1, 1), None);
+    assert_eq!(rt; table.rows().len(), 2);
     assert_eq!(rt; (rows[0].key, rows[0].added, rows[0].taken), (4, 5, 6));
     assert_eq!(rt; (rows[1].key, rows[1].added, rows[1].taken), (8, 1, 1));
-    assert_eq!(rt; enter(&mut rows, 2, 8, 1, 2), Some(2));
+    let mut table = Table::with_used(&mut rows, 2);
+    assert_eq!(rt; enter(&mut table, 8, 1, 2), Some(2));
+    assert_eq!(rt; (rows[1].key, rows[1].added, rows[1].taken), (8, 2, 3));
+    let mut table = Table::with_used(&mut rows, 2);
+    table.clear();
+    assert_eq!(rt; table.rows().len(), 0);
     assert_eq!(rt; (rows[1].key, rows[1].added, rows[1].taken), (8, 2, 3));
     empty(&mut rows);
     assert_eq!(rt; (rows[0].key, rows[0].added, rows[0].taken), (0, 0, 0));
@@ -196,6 +210,6 @@ fn covering(rt: HostRuntime) {
             taken: 6,
         },
     ];
-    assert!(rt; covered(&rows, 0) && covered(&rows, 1) && covered(&rows, 2));
-    assert!(rt; !covered(&rows, 3));
+    assert!(rt; covered(&rows[..0]) && covered(&rows[..1]) && covered(&rows[..2]));
+    assert!(rt; !covered(&rows));
 }

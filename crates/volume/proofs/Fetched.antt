@@ -1,5 +1,5 @@
 -- Entries found by their number.
-use Rattle.std.proofs.Common.{◌≡◌, ℕ, ◌+◌, ◌-◌, ◌<◌, ◌≤◌, true, false, leb, List, [], map, reverse, length, get_or, Ok, Err, sym, ap, ◌∙◌, arith}
+use Rattle.std.proofs.Common.{◌≡◌, ℕ, ◌+◌, ◌-◌, ◌<◌, ◌≤◌, true, false, leb, List, [], map, reverse, length, get_or, Some, Ok, Err, sym, ap, ◌∙◌, arith}
 use Rattle.std.specs.List.{between}
 use Rattle.std.proofs.lemmas.List.Edits.{length-between, get_or-between}
 use Rattle.std.proofs.lemmas.List.{length-map, length-reverse, get_or-map, get_or-reverse}
@@ -11,7 +11,8 @@ use Rattle.filing.specs.Entries.{reads}
 use Rattle.filing.specs.Volumes.{Records, walk, entry_of, entries_of}
 use Rattle.filing.proofs.Holds.{walked_back}
 use Rattle.shelf.specs.Records.{Whole}
-use Rattle.entries.specs.Walks.{counted, parts_below, part_of, no_part}
+use Rattle.entries.specs.Walks.{counted, parts_below, part_of, part_numbered}
+use Rattle.entries.proofs.Walks.{no_part, as_many, at_number}
 use Rattle.volume.specs.Tokens.{found_on}
 use Rattle.volume.specs.Taking.{numbered_in, fetched}
 use Rattle.volume.proofs.Opened.{laws}
@@ -25,14 +26,14 @@ module _ (rs : Records) (limit : ℕ) (whole : Whole rs) (o : Opened) (own : fou
   inside = (walked_back reads limit rs o own).3
 
   -- the entries are those of the parts below the last trailer
-  pub entries_below : entries_of rs ≡ reverse (map entry_of (parts_below rs o.last))
+  entries_below : entries_of rs ≡ reverse (map entry_of (parts_below rs o.last))
   entries_below = ap (λ n. reverse (map entry_of (parts_below rs n))) (sym (laws.holds reads limit rs o whole own).top)
 
   pub many : length (entries_of rs) ≡ o.entries
   many = (laws.holds reads limit rs o whole own).many
 
   -- entry k, found from the back
-  pub entry_at : (k : ℕ) (t : Trailer) → 0 < k → k ≤ o.entries → get_or (parts_below rs o.last) (o.entries - k) no_part ≡ part_of rs t
+  entry_at : (k : ℕ) (t : Trailer) → 0 < k → k ≤ o.entries → get_or (parts_below rs o.last) (o.entries - k) no_part ≡ part_of rs t
       → between t.previous (t.previous + t.records) rs ≡ get_or (entries_of rs) (k - 1) []
   entry_at k t low high is =
       let ps = parts_below rs o.last in
@@ -42,6 +43,29 @@ module _ (rs : Records) (limit : ℕ) (whole : Whole rs) (o : Opened) (own : fou
       ap entry_of (sym is)
       ∙ sym (get_or-map entry_of ps (o.entries - k) no_part [] (omega (arith, length-map ps entry_of)))
       ∙ ap (λ n. get_or es n []) (sym place) ∙ sym (get_or-reverse es (k - 1) [] (omega arith)) ∙ ap (λ l. get_or l (k - 1) []) (sym entries_below)
+
+  module _ (k : ℕ) where
+    below_many : length (parts_below rs o.last) ≡ o.entries
+    below_many = as_many (walk rs o.last o.last) o.entries walked
+
+    -- the trailer that the walk finds is the one behind the entry with this number
+    entry_some : (t : Trailer) → Some (part_of rs t) ≡ part_numbered k (parts_below rs o.last) → between t.previous (t.previous + t.records) rs ≡ get_or (entries_of rs) (k - 1) []
+    entry_some t e =
+        let found = at_number (parts_below rs o.last) k (part_of rs t) (sym e) in
+        let place : length (parts_below rs o.last) - k ≡ o.entries - k = ap (λ n. n - k) below_many in
+        entry_at k t found.0 (omega (arith, found.1, below_many)) (ap (λ n. get_or (parts_below rs o.last) n no_part) (sym place) ∙ found.2)
+
+  -- a walk over the same records, from the last trailer
+  module _ (walked_over : Records) (at : ℕ) (same : walked_over ≡ rs) (top : at ≡ o.last) where
+    pub entries_walked : entries_of rs ≡ reverse (map entry_of (parts_below walked_over at))
+    entries_walked = entries_below ∙ sym (λ i. reverse (map entry_of (parts_below (same i) (top i))))
+
+    -- what it finds by a number
+    pub entry_found : (k : ℕ) (t : Trailer) → part_numbered k (parts_below walked_over at) ≡ Some (part_of walked_over t) → t.previous + t.records ≤ length walked_over
+        → (between t.previous (t.previous + t.records) rs ≡ get_or (entries_of rs) (k - 1) []) × (t.previous + t.records ≤ length rs)
+    entry_found k t e h =
+        let is : Some (part_of rs t) ≡ part_numbered k (parts_below rs o.last) = sym (ap (λ w. Some (part_of w t)) same) ∙ sym e ∙ (λ i. part_numbered k (parts_below (same i) (top i))) in
+        (entry_some k t is, omega (arith, h, ap length same))
 
 -- what fetching finds, by its two tests
 module _ (k n : ℕ) (es : List Records) where

@@ -1,14 +1,13 @@
 -- Taking in: the tests beyond checking, and what is then on the shelf.
-use Rattle.std.proofs.Common.{◌≡◌, ℕ, ◌+◌, ◌≤◌, Bool, true, false, cond, leb, List, [], ◌∷◌, ◌++◌, length, IfOk, Some, None, Ok, Err, Option, Result, sym, refl, ap, ◌∙◌, add-one, arith}
+use Rattle.std.proofs.Common.{◌≡◌, ℕ, ◌+◌, ◌<◌, ◌≤◌, Bool, true, false, cond, leb, List, [], ◌∷◌, ◌++◌, length, Some, None, Ok, Err, Option, sym, refl, ap, ◌∙◌, add-one, arith}
 use Rattle.std.proofs.lemmas.List.{append_assoc, length-map}
-use Rattle.std.proofs.lemmas.Bool.{cond-true, cond-false, leb-true}
-use Rattle.field.specs.Chains.{then}
+use Rattle.std.proofs.lemmas.Bool.{cond-true, cond-false, leb-true, le-leb, lt-leb}
 use Rattle.record.specs.declared.fields.End.{End}
+use Rattle.record.specs.declared.fields.Start.{Start}
 use Rattle.record.specs.Editions.{Meaning}
 use Rattle.shelf.specs.Records.{Whole}
 use Rattle.trailer.specs.declared.layout.Trailer.{Trailer}
 use Rattle.trailer.specs.Trailers.{trailer_of}
-use Rattle.manual.specs.declared.faults.FileFault.{FileFault}
 use Rattle.manual.specs.Slots.{slots}
 use Rattle.manual.specs.Judging.{check_of}
 use Rattle.manual.specs.Laws.{judging}
@@ -17,8 +16,7 @@ use Rattle.manual.specs.Accepting.{front}
 use Rattle.manual.proofs.Accepting.{right}
 use Rattle.manual.proofs.Slotting.{slots-lines}
 use Rattle.filing.specs.declared.deposits.Deposits.{Deposits}
-use Rattle.filing.specs.declared.faults.VolumeFault.{VolumeFault}
-use Rattle.filing.specs.declared.faults.VolumeFault.TheVariants.{File, Marked, SameStamp, NoRoom}
+use Rattle.filing.specs.declared.faults.VolumeFault.TheVariants.{Marked, SameStamp, NoRoom}
 use Rattle.filing.specs.declared.standing.Standing.TheVariants as standing
 use Rattle.filing.specs.Entries.{deposits_from, no_deposits, totals_of, reads}
 use Rattle.filing.specs.Volumes.{Records, totals_or, trailer_behind, entries_of}
@@ -27,20 +25,22 @@ use Rattle.filing.specs.Taking.{start_of, marked, first_same, unless_same, admit
 use Rattle.filing.proofs.Fitting.{fits, file_reads, front-whole}
 use Rattle.volume.specs.declared.tokens.OpenVolume.{OpenVolume}
 use Rattle.volume.specs.Tokens.{open_says, OwnOpen}
-use Rattle.volume.specs.Taking.{take_answer}
 use Rattle.volume.proofs.Opened.{laws, last-is-count}
 
--- The tests of the volume, one after another.
-module _ (limit count : ℕ) (es : List Records) (e : Records) where
-  pub is-marked : marked (start_of e) ≡ true → Err Marked ≡ admitted limit count es e
-  is-marked h = sym (cond-true _ _ _ h)
+-- The tests of the volume, one after another, where a walk finds the entries.
+module _ (limit count : ℕ) (es : List Records) (e : Records) (start : Option Start) (first : start ≡ start_of e) (production : false ≡ marked start)
+    (walked : List Records) (below : es ≡ walked) (o : Option ℕ) (found : o ≡ first_same start 1 walked) where
+  tested : (p : Option ℕ) → o ≡ p → unless_same p (cond (leb (count + length e + 2) limit) (Ok tt) (Err NoRoom)) ≡ admitted limit count es e
+  tested p h = sym (cond-false _ _ _ (ap marked (sym first) ∙ sym production) ∙ ap (λ o. unless_same o (cond (leb (count + length e + 2) limit) (Ok tt) (Err NoRoom))) ((λ i. first_same (sym first i) 1 (below i)) ∙ sym found ∙ h))
 
-  module _ (production : marked (start_of e) ≡ false) where
-    pub is_same : (k : ℕ) → first_same (start_of e) 1 es ≡ Some k → Err (SameStamp k) ≡ admitted limit count es e
-    is_same k h = sym (cond-false _ _ _ production ∙ ap (λ o. unless_same o (cond (leb (count + length e + 2) limit) (Ok tt) (Err NoRoom))) h)
+  pub is_same : (k : ℕ) → o ≡ Some k → Err (SameStamp k) ≡ admitted limit count es e
+  is_same k h = tested (Some k) h
 
-    pub is_new : (o : Option ℕ) → o ≡ None → first_same (start_of e) 1 es ≡ o → cond (leb (count + length e + 2) limit) (Ok tt) (Err NoRoom) ≡ admitted limit count es e
-    is_new o n h = sym (cond-false _ _ _ production ∙ ap (λ o. unless_same o (cond (leb (count + length e + 2) limit) (Ok tt) (Err NoRoom))) (h ∙ n))
+  pub has_place : o ≡ None → count + length e + 2 ≤ limit → Ok tt ≡ admitted limit count es e
+  has_place h fits = sym (cond-true _ _ _ (le-leb _ _ fits)) ∙ tested None h
+
+  pub has_none : o ≡ None → limit < count + length e + 2 → Err NoRoom ≡ admitted limit count es e
+  has_none h full = sym (cond-false _ _ _ (lt-leb _ _ full)) ∙ tested None h
 
 -- what was admitted has room
 pub has_room : (limit count : ℕ) (es : List Records) (e : Records) → Ok tt ≡ admitted limit count es e → count + length e + 2 ≤ limit
@@ -86,18 +86,3 @@ module _ (cap : ℕ) (m : Meaning) (bytes : List ℕ) (counts : End) (ok : Ok co
     pub found : limit ≤ 500000 → length rs + length (front (slots bytes)) + 2 ≤ limit
         → Found reads limit (record { entries = t.entries + 1; last = length rs + length (front (slots bytes)) + 1; standing = standing.Open }) (taken reads t.entries rs (front (slots bytes))) (entries_of rs ++ front (slots bytes) ∷ [])
     found bound room = laws.takes_in reads limit rs (front (slots bytes)) (open_says t) whole-rs own refl good (omega arith) (omega arith)
-
--- what taking in answers, by its steps
-pub file_refused : (r : Result End FileFault) (f : FileFault) (limit : ℕ) (rs : Records) (t : OpenVolume) (e : Records) → Err f ≡ r → Err (File f) ≡ take_answer r limit rs t e
-file_refused r f limit rs t e h = ap (λ q. take_answer q limit rs t e) h
-
-pub not-admitted : (r : Result End FileFault) (c : End) (f : VolumeFault) (limit : ℕ) (rs : Records) (t : OpenVolume) (e : Records) → Ok c ≡ r → Err f ≡ admitted limit (length rs) (entries_of rs) e → Err f ≡ take_answer r limit rs t e
-not-admitted r c f limit rs t e h a = ap (λ q. then q (λ _. Ok (t.entries + 1))) a ∙ ap (λ q. take_answer q limit rs t e) h
-
-pub taken_in : (r : Result End FileFault) (c : End) (limit : ℕ) (rs : Records) (t : OpenVolume) (e : Records) → Ok c ≡ r → Ok tt ≡ admitted limit (length rs) (entries_of rs) e → Ok (t.entries + 1) ≡ take_answer r limit rs t e
-taken_in r c limit rs t e h a = ap (λ q. then q (λ _. Ok (t.entries + 1))) a ∙ ap (λ q. take_answer q limit rs t e) h
-
--- what is promised of an answer says nothing of a refusal
-pub made_none : {T E : Type 0} (P : T → Type 0) (r : Result T E) (f : E) → r ≡ Err f → IfOk r P
-made_none P (Ok x) f e = let z : ◌≡◌ {A = ℕ} 0 1 = cc in absurd (omega arith)
-made_none P (Err g) f e = tt

@@ -6,26 +6,28 @@ ghost use Rattle.volume.specs.Tokens.{says, found_on, Own};
 ghost use Rattle.volume.specs.Taking.{numbered_in, fetched, fetch_answer, fetch_bytes};
 
 use crate::tokens::Volume;
-use entries::{find_entry, record_at};
+use entries::{Walk, record_at};
 use filing::{Opened, Standing, VolumeFault};
 use shelf::Shelf;
 use trailer::Trailer;
 
-// What opening found.
-pub fn told(volume: &Volume) -> Opened
-    ensures { result ≡ says volume.now }
-{
-    match volume {
-        Volume::Open(t) => Opened {
-            entries: t.entries,
-            last: t.last,
-            standing: Standing::Open,
-        },
-        Volume::Closed(t) => Opened {
-            entries: t.entries,
-            last: t.last,
-            standing: Standing::Closed,
-        },
+// What opening found, as a token says it.
+impl From<&Volume> for Opened {
+    ghost from_gives = { λ volume r. r ≡ says volume.now };
+
+    fn from(volume: &Volume) -> Opened {
+        match volume {
+            Volume::Open(t) => Opened {
+                entries: t.entries,
+                last: t.last,
+                standing: Standing::Open,
+            },
+            Volume::Closed(t) => Opened {
+                entries: t.entries,
+                last: t.last,
+                standing: Standing::Closed,
+            },
+        }
     }
 }
 
@@ -33,7 +35,7 @@ pub fn told(volume: &Volume) -> Opened
 fn is_among(k: usize, many: usize) -> bool
     ensures { result ≡ numbered_in k many }
 {
-    1 <= k && k <= many
+    (1..=many).contains(&k)
 }
 
 // The trailer behind entry k.
@@ -44,7 +46,7 @@ fn trailer_of<S: Shelf>(shelf: &S, opened: Opened, k: usize) -> Trailer
     ensures entry { between result.previous (result.previous + result.records) (S.records shelf.now) ≡ slice_index_or (entries_of (S.records shelf.now)) (k - 1) [] }
     ensures inside { result.previous + result.records ≤ length (S.records shelf.now) }
 {
-    find_entry(shelf, opened.last, opened.entries, opened.entries - k)
+    Walk::of(shelf, opened.last, opened.entries).find_entry(k)
 }
 
 // Copies record `number` of entry `entry` as it stands on the shelf.
@@ -59,14 +61,14 @@ pub fn fetch<S: Shelf>(
     ensures answer { result ≡ fetch_answer (fetched entry number (entries_of (S.records shelf.now))) }
     ensures buffer { out.new ≡ fetch_bytes (fetched entry number (entries_of (S.records shelf.now))) out.old }
 {
-    let opened = told(volume);
+    let opened = Opened::from(volume);
     if !is_among(entry, opened.entries) {
         return Err(VolumeFault::NoEntry(entry));
     }
-    let t = trailer_of(shelf, opened, entry);
-    if !is_among(number, t.records as usize) {
+    let trailer = trailer_of(shelf, opened, entry);
+    if !is_among(number, trailer.records as usize) {
         return Err(VolumeFault::NoEntry(entry));
     }
-    *out = record_at(shelf, t.previous as usize + number);
+    *out = record_at(shelf, trailer.previous as usize + number);
     Ok(())
 }

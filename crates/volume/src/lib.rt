@@ -8,7 +8,7 @@ mod taking;
 mod tokens;
 
 pub use closing::{close, open_again};
-pub use fetching::{fetch, told};
+pub use fetching::fetch;
 pub use opening::open;
 pub use taking::take_in;
 pub use tokens::{ClosedVolume, OpenVolume, Volume};

@@ -6,7 +6,7 @@ ghost use Rattle.volume.specs.Tokens.{with_token, found_on, Own};
 ghost use Rattle.volume.specs.Laws.{OpensExactly};
 
 use crate::tokens::{ClosedVolume, OpenVolume, Volume};
-use entries::{judge_back, record_at, walk_back};
+use entries::{Walk, record_at};
 use filing::VolumeFault;
 use shelf::Shelf;
 use trailer::{closing_says, is_right_closing};
@@ -20,15 +20,17 @@ fn ends_98<S: Shelf>(shelf: &S) -> bool
         return false;
     }
     let item = record_at(shelf, count);
-    item[0] == 57 && item[1] == 56
+    item.starts_with(b"98")
 }
 
+// With `open_closed` it shares the walk; what is asked before and behind it is another thing.
 fn open_open<S: Shelf>(shelf: &S) -> Result<Volume, VolumeFault>
     ensures { result ≡ with_token (opening_open reads (S.room shelf.now) (S.records shelf.now)) }
 {
     let count = shelf.count();
-    let entries = walk_back(shelf, count)?;
-    judge_back(shelf, count, entries)?;
+    let walk = Walk::back_from(shelf, count)?;
+    let entries = walk.entries();
+    walk.judge()?;
     if count < shelf.limit() {
         Ok(Volume::Open(OpenVolume {
             entries,
@@ -49,12 +51,13 @@ fn open_closed<S: Shelf>(shelf: &S) -> Result<Volume, VolumeFault>
         return Err(VolumeFault::NoTrailer(count));
     }
     let last = count - 1;
-    let entries = walk_back(shelf, last)?;
-    judge_back(shelf, last, entries)?;
+    let walk = Walk::back_from(shelf, last)?;
+    let entries = walk.entries();
+    walk.judge()?;
     if closing_says(&item, entries) {
         Ok(Volume::Closed(ClosedVolume { entries, last }))
     } else {
-        Err(VolumeFault::Differs(0))
+        Err(VolumeFault::ClosingDiffers)
     }
 }
 

@@ -11,32 +11,27 @@ ghost use Rattle.volume.specs.Taking.{take_answer, take_records, take_token};
 ghost use Rattle.volume.specs.Tokens.{OwnOpen};
 
 use crate::tokens::OpenVolume;
-use entries::{first_with, item_of, lay_lines, measure_lines, start_of};
-use file::check;
+use entries::{Walk, lay_lines, measure_lines, start_of};
+use file::{Lines, check};
 use filing::VolumeFault;
-use record::{Edition, Start, TestMark, cut};
+use record::{Edition, Start, TestMark};
 use shelf::Shelf;
 use sums::Row;
-use trailer::{Totals, Trailer, write_trailer};
+use trailer::{Trailer, write_trailer};
 
 // The start record of a file's records.
 fn file_start(file: &[u8]) -> Option<Start>
     ensures { result ≡ start_of (front (slots file.now)) }
 {
-    match cut(file) {
-        Some(_) => start_of(&item_of(file)),
-        None => None,
-    }
+    let record = Lines::new(file).next()?.ok()?;
+    start_of(record)
 }
 
 // Whether a start record is marked as a test.
 fn is_marked(start: Option<Start>) -> bool
     ensures { result ≡ marked start }
 {
-    match start {
-        Some(x) => matches!(x.mark, TestMark::Test),
-        None => false,
-    }
+    start.is_some_and(|start| start.mark == TestMark::Test)
 }
 
 // Whether the file's records, so many, may be taken in.
@@ -55,7 +50,7 @@ fn admit<S: Shelf>(
     if is_marked(start) {
         return Err(VolumeFault::Marked);
     }
-    if let Some(entry) = first_with(shelf, volume.last, volume.entries, start) {
+    if let Some(entry) = Walk::of(shelf, volume.last, volume.entries).first_with(start) {
         return Err(VolumeFault::SameStamp(entry));
     }
     if shelf.count() + many + 2 <= shelf.limit() {
@@ -102,12 +97,7 @@ pub fn take_in<S: Shelf, E: Edition>(
         records: size.records as u64,
         entry: volume.entries as u64 + 1,
         previous: volume.last as u64,
-        totals: Totals {
-            payments: counts.payments,
-            deductions: counts.deductions,
-            sek: size.deposits.sek,
-            eur: size.deposits.eur,
-        },
+        totals: size.deposits.totals(counts),
     };
     lay_lines(shelf, file);
     lay_trailer(shelf, &trailer);

@@ -2,5 +2,5 @@ use Rattle.std.proofs.Common.{◌≡◌, take, replicate}
 use Rattle.sums.specs.Table.{zero_row}
 use Rattle.sums.proofs.empty.Given as goal
 
-abbrev pub invariant-loop-i : goal.invariant-loop-i
-invariant-loop-i g l = take l.i l.rows ≡ replicate l.i (zero_row g.K.Key.zero)
+abbrev pub invariant-loop-row : goal.invariant-loop-row
+invariant-loop-row g l = take l.row-index l.rows ≡ replicate l.row-index (zero_row g.K.Key.zero)

@@ -1,12 +1,10 @@
-use Rattle.std.proofs.Common.{rules}
-use Rattle.record.proofs.Seeking.{sought_here, sought_on, sought-end}
+use Rattle.std.proofs.Common.{rules, eqb}
+use Rattle.std.proofs.lemmas.Iterator.{YieldsList-from_slice}
+use Rattle.std.proofs.lemmas.Iterator.Search.{find_from_yields_List}
+use Rattle.record.specs.declared.editions.HouseKind.{HouseKind}
 use Rattle.record.proofs.editions.seek.Goals as goal
 
-pub returns-then-kind-code : goal.returns-then-kind-code
-returns-then-kind-code c = search (rules, sought_here)
-
-pub loop-kind-preserved : goal.loop-kind-preserved
-loop-kind-preserved c = search (rules, sought_on)
-
 pub returns : goal.returns
-returns c = search (rules, sought-end)
+returns c =
+    let found = find_from_yields_List (λ (k : HouseKind). eqb k.code c.args.code) _ _ c.find.result c.find.ensures.ran (YieldsList-from_slice c.args.kinds.now cc) (λ x b q k. search rules) in
+    search (rules, found)

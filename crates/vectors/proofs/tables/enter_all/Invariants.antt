@@ -1,7 +1,10 @@
-use Rattle.std.proofs.Common.{◌≡◌, ◌≤◌, [], length, take, drop}
+use Rattle.std.proofs.Common.{◌≡◌, [], length, take, drop}
 use Rattle.sums.specs.Laws.{run}
 use Rattle.vectors.proofs.tables.enter_all.Given as goal
 
-abbrev pub invariant-loop-e : goal.invariant-loop-e
-invariant-loop-e g l =
-    (l.used ≤ length l.rows) × (run g.K.Key.same (length l.initial.rows) (take l.used l.rows) (drop l.e-index l.entries) ≡ run g.K.Key.same (length l.initial.rows) [] l.entries)
+abbrev pub invariant-loop-entry : goal.invariant-loop-entry
+invariant-loop-entry g l = record {
+  lender : l.table.rows.ghost_name ≡ l.initial.table.rows.ghost_name;
+  room : length l.table.rows.now ≡ length l.initial.table.rows.now;
+  rest : run g.K.Key.same (length l.initial.table.rows.now) (take l.table.used l.table.rows.now) (drop l.entry-index l.entries) ≡ run g.K.Key.same (length l.initial.table.rows.now) [] l.entries;
+}

@@ -1,39 +1,21 @@
-use Rattle.std.proofs.Common.{◌≡◌, ◌+◌, [], ◌∷◌, ◌++◌, length, Ok, Err, sym, refl, ap, ◌∙◌, arith, length-append}
-use Rattle.std.proofs.lemmas.Result.{err_from_is_err_and}
+use Rattle.std.proofs.Common.{◌≡◌, ◌+◌, length, Ok, sym, ap, ◌∙◌, arith, length-append, rules}
 use Rattle.manual.specs.Accepting.{front}
 use Rattle.manual.specs.Slots.{slots}
 use Rattle.filing.specs.declared.standing.Standing.TheVariants.{Open}
 use Rattle.filing.specs.Taking.{admitted}
 use Rattle.filing.specs.Volumes.{entries_of}
 use Rattle.volume.specs.Tokens.{found_on}
-use Rattle.volume.specs.Taking.{take_records, take_token}
 use Rattle.volume.proofs.Opened.{last-is-count, few-entries}
-use Rattle.volume.proofs.Taken.{has_room, few-records, trailer-is, taken_is, found, not-admitted, taken_in, made_none}
+use Rattle.volume.proofs.Taken.{has_room, few-records, trailer-is, taken_is, found}
 use Rattle.volume.proofs.taking.take_in.Goals as goal
 
-pub admit-requires : goal.admit-requires
-admit-requires g c =
+pub admit-requires-clause-few : goal.admit-requires-clause-few
+admit-requires-clause-few g c =
     let few = few-records (length c.args.payers.now) (g.E.Edition.meaning c.args.edition.now) c.args.file.now c.in_ok-counts.counts c.in_ok-counts.ensures.answer in
-    record { own = c.requires; counted = c.measure_lines-size.ensures.records; few = omega (arith, few, c.measure_lines-size.ensures.records) }
+    omega (arith, few, c.measure_lines-size.ensures.records)
 
-pub returns-in_err-admit : goal.returns-in_err-admit
-returns-in_err-admit g c =
-    let shelf = c.args.shelf.now in
-    let rs = g.S.Shelf.records shelf in
-    let limit = g.S.Shelf.room shelf in
-    let t = c.args.volume.now in
-    let e = front (slots c.args.file.now) in
-    let refused = err_from_is_err_and c.from_residual-in_err-admit.result c.from_residual-in_err-admit.ensures.1 in
-    let is : c.from_residual-in_err-admit.result ≡ Err c.in_err-admit.field-0.0 = refused.1 ∙ ap Err refused.2 in
-    record {
-      answer = is ∙ not-admitted _ c.in_ok-counts.counts c.in_err-admit.field-0.0 limit rs t e c.in_ok-counts.ensures.answer (sym c.in_err-admit.was ∙ c.admit.ensures);
-      list = ap (λ q. take_records q rs t e) (sym is);
-      token = ap (λ q. take_token q rs t e) (sym is);
-      limit = refl;
-      same = g.S.Shelf.laws.same_refl shelf;
-      entries = made_none (λ _. entries_of rs ≡ entries_of rs ++ e ∷ []) c.from_residual-in_err-admit.result c.in_err-admit.field-0.0 is;
-      own = c.requires;
-    }
+pub returns-in_err-admit-clause-same : goal.returns-in_err-admit-clause-same
+returns-in_err-admit-clause-same g c = g.S.Shelf.laws.same_refl c.args.shelf.now
 
 pub overflow_add-trailer : goal.overflow_add-trailer
 overflow_add-trailer g c =
@@ -88,13 +70,15 @@ returns g c =
     let size = c.measure_lines-size.ensures in
     let passed : Ok tt ≡ admitted limit (length rs) (entries_of rs) e = sym c.in_ok-admit.was ∙ c.admit.ensures in
     let room = has_room limit (length rs) (entries_of rs) e passed in
-    let is = trailer-is cap m file counts ok rs limit whole t c.requires c.measure_lines-size.result.records c.measure_lines-size.result.deposits size.records size.deposits in
+    let n = c.measure_lines-size.result.records in
+    let sums = c.totals.ensures in
+    let is = (λ i. record { records = n; entry = t.entries + 1; previous = t.last; totals = sums i }) ∙ trailer-is cap m file counts ok rs limit whole t c.requires c.measure_lines-size.result.records c.measure_lines-size.result.deposits size.records size.deposits in
     let lies = taken_is cap m file counts ok rs limit whole t c.requires _ (g.S.Shelf.records c.lay_lines.new.shelf) (g.S.Shelf.records c.lay_trailer.new.shelf) is c.lay_lines.ensures.list c.lay_trailer.ensures.list in
     let f = found cap m file counts ok rs limit whole t c.requires (g.S.Shelf.laws.bound shelf) room in
     let last : t.last + (c.measure_lines-size.result.records + 1) ≡ length rs + length e + 1 = omega (arith, last-is-count rs limit whole t c.requires, size.records) in
     let kept = c.lay_trailer.ensures.limit ∙ c.lay_lines.ensures.limit in
     record {
-      answer = taken_in _ counts limit rs t e ok passed;
+      answer = search rules;
       list = lies;
       token = λ i. record { entries = t.entries + 1; last = last i };
       limit = kept;
