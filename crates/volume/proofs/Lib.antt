@@ -1,3 +1,4 @@
 pub mod Fetched
 pub mod Opened
 pub mod Taken
+pub mod Worked

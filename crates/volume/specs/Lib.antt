@@ -1,3 +1,4 @@
 pub mod Tokens
 pub mod Laws
 pub mod Taking
+pub mod Examples

@@ -2,6 +2,7 @@
 #![tactic(auto)]
 
 mod closing;
+mod examples;
 mod fetching;
 mod opening;
 mod taking;

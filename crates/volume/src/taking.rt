@@ -7,9 +7,11 @@ ghost use Rattle.manual.specs.Laws.{judging};
 ghost use Rattle.manual.specs.Slots.{slots};
 ghost use Rattle.filing.specs.Taking.{start_of, marked, admitted};
 ghost use Rattle.filing.specs.Volumes.{entries_of};
+ghost use Rattle.volume.specs.Examples.{ExamplesHold};
 ghost use Rattle.volume.specs.Taking.{take_answer, take_records, take_token};
 ghost use Rattle.volume.specs.Tokens.{OwnOpen};
 
+use crate::examples::examples_hold;
 use crate::tokens::OpenVolume;
 use entries::{Walk, lay_lines, measure_lines, start_of};
 use file::{Lines, check};
@@ -73,7 +75,8 @@ fn lay_trailer<S: Shelf>(shelf: &mut S, t: &Trailer)
 }
 
 // Takes a file in, and answers its entry number. A refusal changes neither shelf nor token; what the table of payers holds
-// afterwards is not fixed. The entries of the shelf are then the same with the file's records added last.
+// afterwards is not fixed. The entries of the shelf are then the same with the file's records added last. The worked examples of the
+// rules hold.
 pub fn take_in<S: Shelf, E: Edition>(
     shelf: &mut S,
     volume: &mut OpenVolume,
@@ -89,7 +92,9 @@ pub fn take_in<S: Shelf, E: Edition>(
     ensures same { S.same shelf.old shelf.new }
     ensures entries { OnOk result (entries_of (S.records shelf.new) ≡ entries_of (S.records shelf.old) ++ front (slots file.now) ∷ []) }
     ensures own { OwnOpen volume.new (S.records shelf.new) (S.room shelf.new) }
+    ensures examples { ExamplesHold }
 {
+    examples_hold();
     let counts = check(file, edition, payers)?;
     let size = measure_lines(file);
     admit(shelf, volume, file, size.records)?;

@@ -87,4 +87,5 @@ returns g c =
       own =
           ap (found_on (g.S.Shelf.records c.lay_trailer.new.shelf)) kept ∙ ap (λ x. found_on x limit) lies ∙ f.opens
           ∙ ap (λ n. Ok (record { entries = t.entries + 1; last = n; standing = Open })) (sym last);
+      examples = search rules;
     }
