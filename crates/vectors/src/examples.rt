@@ -7,19 +7,19 @@ use std::alloc::{AllocError, Global};
 use std::test::Fail;
 use sums::Row;
 
-const START: &[u8; 80] =
+pub(crate) const START: &[u8; 80] =
     b"01BGMAX               0120310402081500000000P                                   ";
 
-const OPENING: &[u8; 80] =
+pub(crate) const OPENING: &[u8; 80] =
     b"050000004711          SEK                                                       ";
 
-const PAYMENT: &[u8; 80] =
+pub(crate) const PAYMENT: &[u8; 80] =
     b"200000000815                     1230000000000000125000200000000000170          ";
 
-const DEPOSIT: &[u8; 80] =
+pub(crate) const DEPOSIT: &[u8; 80] =
     b"15000000000000000000000000000000000002031040200000000000000000125000SEK00000001 ";
 
-const END: &[u8; 80] =
+pub(crate) const END: &[u8; 80] =
     b"7000000001000000000000000000000001                                              ";
 // deposits of 124999, on 29 February 2031 and on 29 February 2032
 const SHORT: &[u8; 80] =
@@ -31,7 +31,7 @@ const NO_DAY: &[u8; 80] =
 const LEAP_DAY: &[u8; 80] =
     b"15000000000000000000000000000000000002032022900000000000000000125000SEK00000001 ";
 
-const UNKNOWN: &[u8; 80] =
+pub(crate) const UNKNOWN: &[u8; 80] =
     b"77                                                                              ";
 
 fn file_of(heap: Global, records: &[&[u8; 80]]) -> Result<Vec<u8>, AllocError> {

@@ -4,14 +4,23 @@
 #[cfg(test)]
 mod checks;
 #[cfg(test)]
+mod desks;
+#[cfg(test)]
 mod examples;
 #[cfg(test)]
 mod fields;
 #[cfg(test)]
 mod files;
 #[cfg(test)]
+mod letters;
+#[cfg(test)]
 mod records;
 #[cfg(test)]
 mod shelves;
 #[cfg(test)]
+mod strangers;
+#[cfg(test)]
 mod tables;
+mod tokens;
+#[cfg(test)]
+mod volumes;

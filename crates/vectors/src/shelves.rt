@@ -10,9 +10,9 @@ use shelf::{Joined, MemoryShelf, Shelf, ShelfFault, lay, read_range};
 
 // A full shelf of `count` records whose bytes are all `byte`: its limit takes no memory.
 #[derive(Clone, Copy)]
-struct Alike {
-    count: usize,
-    byte: u8,
+pub(crate) struct Alike {
+    pub(crate) count: usize,
+    pub(crate) byte: u8,
 }
 
 impl Shelf for Alike {
