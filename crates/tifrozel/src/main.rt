@@ -1,103 +1,100 @@
 // The program of the support desk: arguments, files and printing. Every decision is made in the library.
 #![tactic(auto)]
 
+ghost use Rattle.std.specs.Prelude.{◌≤◌};
+
+mod answers;
 mod checks;
+mod desk;
+mod disk;
+mod files;
 mod listing;
+mod requests;
+mod shelves;
 mod show;
 mod words;
 
-use anyhow::anyhow;
-use checks::checked;
-use listing::list;
-use manual::{Cause, FileFault};
-use record::RecordFault;
-use refusal::Refusal;
+use answers::{Done, Undone, bytes_of, not_run, records, tell};
+use desk::Desk;
+use disk::{places, read_shelf};
+use files::{check, read};
+use requests::{Request, request_of};
+use shelf::{MemoryShelf, Shelf};
+use shelves::{Seat, ShelfFile, Turn, at_seat};
+use std::env;
+use std::io::IsTerminal;
 use std::process::ExitCode;
-use std::{env, fs};
-use words::{Command, EditionName, edition_asked, is_comment, options_asked, words_of};
+use words::{Asked, Command, Form, MOST_PAYERS, is_comment, option, options_asked, words_of};
 
-const USAGE: &str =
-    "write tifrozel [--payers N] check FILE [under bare|house], or tifrozel read FILE [under bare|house]";
+const USAGE: &str = "write tifrozel [--limit N] [--payers N] SHELF [COMMAND ARG ..], \
+    tifrozel [--payers N] check FILE [under bare|house], or tifrozel read FILE [under bare|house]";
 
-// The bytes of a file; where it cannot be read, the command says so.
-fn bytes_of(rt: &HostRuntime, command: Command, path: &str) -> anyhow::Result<Vec<u8>> {
-    match fs::read(rt, path) {
-        Ok(bytes) => Ok(bytes),
-        Err(e) => {
-            println!(rt; "{command} {path}: not run, cannot read {path}: {e}")?;
-            Err(anyhow!("not run"))
-        }
+// Runs what is asked; `head` is its words without its edition.
+fn run<S: Shelf + Drop>(
+    rt: &HostRuntime,
+    head: &str,
+    seat: Seat<S>,
+    file: &mut ShelfFile<'_>,
+    request: Request,
+    payers: usize,
+) -> Turn<S> {
+    match request {
+        Request::Read(asked) => (seat, read(rt, head, asked)),
+        Request::Check(asked) => (seat, check(rt, head, asked, payers)),
+        Request::AtShelf(asked) => at_seat(rt, head, seat, file, asked, payers),
     }
 }
 
-fn refused(rt: &HostRuntime, command: Command, path: &str, fault: FileFault) -> anyhow::Result<()> {
-    let refusal = Refusal::from(fault);
-    println!(rt; "{command} {path}: refused {refusal}")?;
-    if let Cause::Unreadable(RecordFault::Layout(field)) = fault.cause {
-        eprintln!(rt; "the field is {field}")?;
-    }
-    Err(anyhow!("refused"))
-}
-
-// Each record of the file by itself, then the refusal where one cannot be read.
-fn read(rt: &HostRuntime, path: &str, edition: EditionName) -> anyhow::Result<()> {
-    let bytes = bytes_of(rt, Command::Read, path)?;
-    let listing = list(rt.alloc(), &bytes, &edition)?;
-    let records = listing.records;
-    let noun = if records == 1 { "record" } else { "records" };
-    println!(rt; "read {path}: {records} {noun}, each by itself")?;
-    let lines = listing.lines.as_str();
-    print!(rt; "{lines}")?;
-    match listing.fault {
-        None => Ok(()),
-        Some(fault) => refused(rt, Command::Read, path, fault),
-    }
-}
-
-fn check(rt: &HostRuntime, path: &str, edition: EditionName, payers: usize) -> anyhow::Result<()> {
-    let bytes = bytes_of(rt, Command::Check, path)?;
-    match checked(rt.alloc(), &bytes, &edition, payers)? {
-        Ok(counts) => {
-            let payments = counts.payments;
-            let deductions = counts.deductions;
-            let extras = counts.extras;
-            let deposits = counts.deposits;
-            println!(rt;
-                "check {path}: accepted, payments {payments}, deductions {deductions}, extra references {extras}, deposits {deposits}"
-            )?;
-            Ok(())
-        }
-        Err(fault) => refused(rt, Command::Check, path, fault),
-    }
-}
-
-// A command that cannot run says why.
-fn not_run(rt: &HostRuntime, command: &str, why: &str) -> anyhow::Result<()> {
-    println!(rt; "{command}: not run, {why}")?;
-    Err(anyhow!("not run"))
-}
-
-fn run(rt: &HostRuntime, args: &[String]) -> anyhow::Result<()> {
-    let Some(asked) = options_asked(args) else {
-        return not_run(rt, "tifrozel", USAGE);
+// Runs the command of these words, of which there is at least one.
+fn step<S: Shelf + Drop>(
+    rt: &HostRuntime,
+    seat: Seat<S>,
+    file: &mut ShelfFile<'_>,
+    words: &[String],
+    payers: usize,
+) -> Turn<S> {
+    let Some(word) = words.first() else {
+        return (seat, not_run(rt, "tifrozel", USAGE));
     };
-    let word = asked.words[0].as_str();
+    let word = word.as_str();
     let Ok(command) = word.parse::<Command>() else {
-        return not_run(rt, word, "no such command");
+        return (seat, not_run(rt, word, "no such command"));
     };
-    let Some(edition) = edition_asked(asked.words) else {
-        return not_run(rt, word, USAGE);
+    let Some(request) = request_of(command, words) else {
+        return (seat, not_run(rt, word, Form(command)));
     };
-    let path = asked.words[1].as_str();
-    match command {
-        Command::Read => read(rt, path, edition),
-        Command::Check => check(rt, path, edition, asked.payers),
+    match format!(in rt.alloc(); "{request}") {
+        Ok(head) => {
+            let (seat, answer) = run(rt, head.as_str(), seat, file, request, payers);
+            (seat, tell(rt, head.as_str(), answer))
+        }
+        Err(e) => (seat, Err(Undone::from(e))),
+    }
+}
+
+// One line of standard input: a command, perhaps with a number of payers of its own before it.
+fn step_of_line<S: Shelf + Drop>(
+    rt: &HostRuntime,
+    seat: Seat<S>,
+    file: &mut ShelfFile<'_>,
+    words: &[String],
+    payers: usize,
+) -> Turn<S> {
+    match option(words, "--payers", payers) {
+        Some(given) => step(rt, seat, file, given.words, given.number.min(MOST_PAYERS)),
+        None => (seat, not_run(rt, "--payers", USAGE)),
     }
 }
 
 // Commands from standard input, one to a line; empty lines and those that begin with `#` are passed over.
-fn serve(rt: &HostRuntime) -> anyhow::Result<()> {
+fn serve<S: Shelf + Drop>(
+    rt: &HostRuntime,
+    seat: Seat<S>,
+    file: &mut ShelfFile<'_>,
+    payers: usize,
+) -> Done {
     let heap = rt.alloc();
+    let mut seat = seat;
     let mut good = true;
     for line in rt.lines(heap) {
         let line = line?;
@@ -105,30 +102,100 @@ fn serve(rt: &HostRuntime) -> anyhow::Result<()> {
         if words.is_empty() || is_comment(line.as_str()) {
             continue;
         }
-        if run(rt, &words).is_err() {
-            good = false;
-        }
+        let (after, answer) = step_of_line(rt, seat, file, &words, payers);
+        seat = after;
+        good = good && answer.is_ok();
     }
-    if good {
-        Ok(())
-    } else {
-        Err(anyhow!("refused"))
-    }
+    if good { Ok(()) } else { Err(Undone::Told) }
 }
 
-// The command that stands in the arguments or, without any, the commands of standard input.
-fn asked(rt: &HostRuntime) -> anyhow::Result<()> {
+// The command, or those of standard input where there is none.
+fn commands<S: Shelf + Drop>(
+    rt: &HostRuntime,
+    seat: Seat<S>,
+    file: &mut ShelfFile<'_>,
+    words: &[String],
+    payers: usize,
+) -> Done {
+    if words.is_empty() {
+        return serve(rt, seat, file, payers);
+    }
+    let (_, answer) = step(rt, seat, file, words, payers);
+    answer
+}
+
+// Opens the shelf, and runs the commands at it.
+fn at_shelf<S: Shelf + Drop>(
+    rt: &HostRuntime,
+    shelf: S,
+    file: &mut ShelfFile<'_>,
+    words: &[String],
+    payers: usize,
+) -> Done {
+    let seat = match Desk::open(shelf) {
+        Ok(desk) => Seat::At(desk),
+        Err(fault) => Seat::Shut(fault),
+    };
+    commands(rt, seat, file, words, payers)
+}
+
+// The commands at the shelf that lies in the file of this path.
+fn at_file(rt: &HostRuntime, asked: Asked, path: &str, words: &[String]) -> Done
+    requires { asked.limit ≤ 500000 }
+{
+    let bytes = bytes_of(rt, path, path, read_shelf(rt, path))?;
+    let size = bytes.len();
+    if size % 80 != 0 {
+        return not_run(rt, path, "its length is no multiple of 80");
+    }
+    let many = records(size / 80);
+    if size > LONG && rt.stderr().is_terminal() {
+        eprintln!(rt; "{path}: opening {many}")?;
+    }
+    let mut places = places(rt.alloc(), &bytes, asked.limit)?;
+    let shelf = MemoryShelf::new(&mut places, size / 80);
+    let mut file = ShelfFile { path, size };
+    at_shelf(rt, shelf, &mut file, words, asked.payers)
+}
+
+// Commands that need no shelf: the one of these words, or those of standard input.
+fn at_none(rt: &HostRuntime, words: &[String], payers: usize) -> Done {
+    let mut nowhere = ShelfFile { path: "", size: 0 };
+    commands(
+        rt,
+        Seat::<MemoryShelf>::NoShelf,
+        &mut nowhere,
+        words,
+        payers,
+    )
+}
+
+// From so many bytes on, a shelf takes a while to open.
+const LONG: usize = 8_000_000;
+
+// What the arguments ask: a command that needs no shelf, or commands at a shelf; without any, commands from standard input.
+fn asked(rt: &HostRuntime) -> Done {
     let args: Vec<String> = env::args(rt)?.skip(1).collect(rt.alloc())?;
     if args.is_empty() {
-        serve(rt)
-    } else {
-        run(rt, &args)
+        return at_none(rt, &args, MOST_PAYERS);
+    }
+    let Some(asked) = options_asked(&args) else {
+        return not_run(rt, "tifrozel", USAGE);
+    };
+    let Some((first, words)) = asked.words.split_first() else {
+        return not_run(rt, "tifrozel", USAGE);
+    };
+    match first.as_str() {
+        "check" | "read" => at_none(rt, asked.words, asked.payers),
+        option if option.starts_with("--") => not_run(rt, "tifrozel", USAGE),
+        path => at_file(rt, asked, path, words),
     }
 }
 
-// Status 1 where a command was refused or could not run. What is to be said of it has been printed by then.
+// Status 1 where a command was refused or could not run. Why has been printed by then.
 fn main(rt: HostRuntime) -> ExitCode {
-    if asked(&rt).is_ok() {
+    let answer = asked(&rt);
+    if tell(&rt, "tifrozel", answer).is_ok() {
         ExitCode::SUCCESS
     } else {
         ExitCode::FAILURE

@@ -1,4 +1,4 @@
-// Rows as the lines that are printed.
+// Rows and records as the lines that are printed.
 use record::Row;
 use std::fmt;
 
@@ -21,5 +21,19 @@ impl fmt::Display for RowLine {
             f,
             "  {number} {code:02} {party} {whole}.{part:02} {serial} {form}"
         )
+    }
+}
+
+// A record as a line behind two blanks. Its bytes are Latin-1, and each is printed as its character.
+#[derive(Clone, Copy, Debug, PartialEq, Eq)]
+pub struct RecordLine(pub [u8; 80]);
+
+impl fmt::Display for RecordLine {
+    fn fmt<W: fmt::Write>(&self, f: &mut fmt::Formatter<W>) -> fmt::Result {
+        f.write_str("  ")?;
+        for byte in &self.0 {
+            f.write_char(*byte as char)?;
+        }
+        f.write_str("\n")
     }
 }

@@ -1,7 +1,8 @@
-// The words of a command.
-ghost use Rattle.std.specs.Prelude.{◌≡◌, ◌≤◌, true, ◌&&◌, length, is_some, IfSome, Some, None, ◌==◌, ◌≢◌, nat_lt, slice_index};
+// The words of a command line.
+ghost use Rattle.std.specs.Prelude.{◌≡◌, ◌≤◌, ℕ, List, true, ◌&&◌, length, is_some, IfSome, MatchOption, Some, None, ◌==◌, ◌≢◌, nat_lt, slice_index};
+ghost use Rattle.tifrozel.specs.declared.words.EditionName.{EditionName};
 ghost use Rattle.tifrozel.specs.declared.words.EditionName.TheVariants.{House as named_house};
-ghost use Rattle.tifrozel.specs.Words.{IsEditionNamed, IsCommandNamed, IsTailAfter};
+ghost use Rattle.tifrozel.specs.Words.{AsksEdition, BeginWith, IsEditionNamed, IsCommandNamed, IsAsked, IsOption, SecondWrites};
 ghost use Rattle.tifrozel.specs.Editions.{meant};
 
 use record::{Bare, Edition, House, Level};
@@ -56,6 +57,10 @@ impl Edition for EditionName {
 pub enum Command {
     Read,
     Check,
+    Open,
+    TakeIn,
+    Close,
+    Fetch,
 }
 
 impl fmt::Display for Command {
@@ -63,7 +68,28 @@ impl fmt::Display for Command {
         f.write_str(match self {
             Command::Read => "read",
             Command::Check => "check",
+            Command::Open => "open",
+            Command::TakeIn => "take-in",
+            Command::Close => "close",
+            Command::Fetch => "fetch",
         })
+    }
+}
+
+// How a command is written, for whoever wrote it otherwise. A type of its own, since the command alone is its word.
+#[derive(Clone, Copy, Debug, PartialEq, Eq)]
+pub struct Form(pub Command);
+
+impl fmt::Display for Form {
+    fn fmt<W: fmt::Write>(&self, f: &mut fmt::Formatter<W>) -> fmt::Result {
+        let command = self.0;
+        match command {
+            Command::Read | Command::Check | Command::TakeIn => {
+                write!(f, "write {command} FILE [under bare|house]")
+            }
+            Command::Open | Command::Close => write!(f, "write {command} alone"),
+            Command::Fetch => write!(f, "write {command} ENTRY RECORD, two numbers"),
+        }
     }
 }
 
@@ -80,6 +106,10 @@ impl FromStr for Command {
         match word {
             "read" => Ok(Command::Read),
             "check" => Ok(Command::Check),
+            "open" => Ok(Command::Open),
+            "take-in" => Ok(Command::TakeIn),
+            "close" => Ok(Command::Close),
+            "fetch" => Ok(Command::Fetch),
             _ => Err(NoSuchCommand),
         }
     }
@@ -88,6 +118,7 @@ impl FromStr for Command {
 // The edition that `COMMAND FILE [under EDITION]` asks for; none where the words are not so put.
 pub fn edition_asked(words: &[String]) -> Option<EditionName>
     ensures words { is_some result ≡ true → 2 ≤ length words.now }
+    ensures edition { MatchOption result ((e : EditionName) → ¬ (AsksEdition words.now e)) (λ e. AsksEdition words.now e) }
     ensures unnamed { length words.now ≡ 2 → result ≡ Some named_house }
     ensures ill_put { (length words.now ≢ 2) → (length words.now ≢ 4) → result ≡ None }
 {
@@ -98,37 +129,66 @@ pub fn edition_asked(words: &[String]) -> Option<EditionName>
     }
 }
 
-// No file has more payers than records.
-const MOST_PAYERS: usize = 50_000;
+// No shelf has more places.
+const MOST_PLACES: usize = 500_000;
 
+// No file has more payers than records.
+pub const MOST_PAYERS: usize = 50_000;
+
+// A number that an option gives, and the words behind it.
 #[derive(Clone, Copy)]
-pub struct Asked<'a> {
-    // rows of the payer table
-    pub payers: usize,
-    // the command, and what stands behind it
+pub struct Given<'a> {
+    pub number: usize,
     pub words: &'a [String],
 }
 
-// What is asked, where the words before the command are none or `--payers N`; none where they are others.
+// The number behind the option of this name, where the words begin with it; else `otherwise`. None where no number stands
+// there.
+pub fn option<'a>(words: &'a [String], name: &str, otherwise: usize) -> Option<Given<'a>>
+    ensures { MatchOption result (BeginWith name.now words.now × ((n : ℕ) → ¬ (SecondWrites words.now n))) (λ o. IsOption name.now otherwise words.now o.number o.words.now) }
+{
+    match words.split_first() {
+        Some((first, rest)) if first.as_str() == name => {
+            let (number, words) = rest.split_first()?;
+            Some(Given {
+                number: number.as_str().parse().ok()?,
+                words,
+            })
+        }
+        _ => Some(Given {
+            number: otherwise,
+            words,
+        }),
+    }
+}
+
+#[derive(Clone, Copy)]
+pub struct Asked<'a> {
+    // places on the shelf
+    pub limit: usize,
+    // rows of the payer table
+    pub payers: usize,
+    // the command, or the shelf, and what stands behind it
+    pub words: &'a [String],
+}
+
+// What is asked, where the words before are `--limit N`, `--payers N`, both in this order, or none; none where they are others
+// or nothing stands behind them.
 pub fn options_asked(args: &[String]) -> Option<Asked<'_>>
+    ensures limit { IfSome result (λ o. o.limit ≤ 500000) }
     ensures payers { IfSome result (λ o. o.payers ≤ 50000) }
     ensures some { IfSome result (λ o. 1 ≤ length o.words.now) }
-    ensures words { IfSome result (λ o. IsTailAfter args.now o.words.now) }
+    ensures asked { MatchOption result ((l p : ℕ) (ws : List _) → ¬ (IsAsked args.now l p ws)) (λ o. IsAsked args.now o.limit o.payers o.words.now) }
 {
-    let (first, rest) = args.split_first()?;
-    if first.as_str() != "--payers" {
-        return Some(Asked {
-            payers: MOST_PAYERS,
-            words: args,
-        });
-    }
-    let (number, words) = rest.split_first()?;
+    let limit = option(args, "--limit", MOST_PLACES)?;
+    let payers = option(limit.words, "--payers", MOST_PAYERS)?;
+    let words = payers.words;
     if words.is_empty() {
         return None;
     }
-    let payers = number.as_str().parse::<usize>().ok()?;
     Some(Asked {
-        payers: payers.min(MOST_PAYERS),
+        limit: limit.number.min(MOST_PLACES),
+        payers: payers.number.min(MOST_PAYERS),
         words,
     })
 }

@@ -1,0 +1,49 @@
+-- What is done at a desk: on an open volume the volume's own call, on a closed one nothing.
+use Rattle.std.specs.Prelude.{ℕ, ◌+◌, List, length, Ok, Err, Result}
+use Rattle.record.specs.declared.fields.End.{End}
+use Rattle.manual.specs.declared.faults.FileFault.{FileFault}
+use Rattle.filing.specs.declared.faults.VolumeFault.{VolumeFault}
+use Rattle.filing.specs.Entries.{reads}
+use Rattle.filing.specs.Volumes.{Records}
+use Rattle.filing.specs.Laws.{taken, closed}
+use Rattle.volume.specs.declared.tokens.Volume.{Volume}
+use Rattle.volume.specs.declared.tokens.Volume.TheVariants.{Open, Closed}
+use Rattle.volume.specs.Taking.{take_answer}
+use Rattle.volume.specs.Tokens.{says}
+use Rattle.tifrozel.specs.declared.desk.NotLaid.{NotLaid}
+use Rattle.tifrozel.specs.declared.desk.NotLaid.TheVariants.{Shut, Refused}
+
+-- the volume's answer, as the desk gives it
+abbrev pub desk_answer : Result ℕ VolumeFault → Result ℕ NotLaid
+desk_answer (Ok k) = Ok k
+desk_answer (Err e) = Err (Refused e)
+
+-- taking in: what is answered, given what checking the file answers and its records e
+abbrev pub taking_answer : Result End FileFault → ℕ → Records → Volume → Records → Result ℕ NotLaid
+taking_answer checked limit rs (Open t) e = desk_answer (take_answer checked limit rs t e)
+taking_answer checked limit rs (Closed t) e = Err Shut
+
+-- taking in: the records of the shelf afterwards, with the file's and their trailer behind the others, or as they were
+abbrev pub taking_records : Result ℕ NotLaid → Records → Volume → Records → Records
+taking_records (Ok k) rs v e = taken reads (says v).entries rs e
+taking_records (Err f) rs v e = rs
+
+-- taking in: the volume afterwards, open with one entry more, or as it was
+abbrev pub taking_volume : Result ℕ NotLaid → Records → Volume → Records → Volume
+taking_volume (Ok k) rs v e = Open (record { entries = (says v).entries + 1; last = length rs + length e + 1 })
+taking_volume (Err f) rs v e = v
+
+-- closing: the number of entries, or that the volume is closed already
+abbrev pub closing_answer : Volume → Result ℕ NotLaid
+closing_answer (Open t) = Ok t.entries
+closing_answer (Closed t) = Err Shut
+
+-- closing: the records of the shelf afterwards, with the closing record last, or as they were
+abbrev pub closing_records : Volume → Records → Records
+closing_records (Open t) rs = closed t.entries rs
+closing_records (Closed t) rs = rs
+
+-- closing: the volume afterwards, closed
+abbrev pub closing_volume : Volume → Volume
+closing_volume (Open t) = Closed (record { entries = t.entries; last = t.last })
+closing_volume (Closed t) = Closed t

@@ -1,0 +1,221 @@
+// The commands at a shelf: `open`, `take-in`, `close` and `fetch`.
+ghost use Rattle.std.specs.Prelude.{◌≡◌, ⊤, IsSomeAnd, MatchOption};
+ghost use Rattle.tifrozel.specs.Commands.{Lays, Leaves, LeavesTaking, LeavesClosing};
+
+use crate::answers::{Done, Undone, bytes_of, entries, not_run, refused};
+use crate::desk::{Desk, NotLaid};
+use crate::disk::replace;
+use crate::requests::{AtShelf, FileAsked};
+use crate::show::RecordLine;
+use crate::words::EditionName;
+use filing::{Standing, VolumeFault};
+use shelf::Shelf;
+use std::{fmt, fs, io};
+use sums::Row;
+
+// How it stands with the shelf of this run.
+#[derive(Drop)]
+pub enum Seat<S: Shelf> {
+    NoShelf,
+    At(Desk<S>),
+    // opening it was refused
+    Shut(VolumeFault),
+    // something was laid that could not be written to its file, which is as it was
+    Unwritten,
+}
+
+// What is left of the shelf's standing by a command, and whether it did what it was asked.
+pub type Turn<S> = (Seat<S>, Done);
+
+// What is left of a desk by a command: none where something was laid that could not be written.
+type Left<S> = (Option<Desk<S>>, Done);
+
+const UNWRITTEN: &str =
+    "an earlier command could not write the shelf; start again from what is on disk";
+
+// A shelf's file, and how many bytes of it this run has read or written.
+#[derive(Clone, Copy)]
+pub struct ShelfFile<'a> {
+    pub path: &'a str,
+    pub size: usize,
+}
+
+fn say<W: fmt::Display + Drop>(rt: &HostRuntime, head: &str, done: W) -> Done {
+    println!(rt; "{head}: {done}")?;
+    Ok(())
+}
+
+// Puts what stands at the desk into the shelf's file.
+fn keep<S: Shelf + Drop>(
+    rt: &HostRuntime,
+    desk: &Desk<S>,
+    file: &mut ShelfFile<'_>,
+) -> io::Result<()> {
+    let bytes = desk.bytes(rt.alloc())?;
+    replace(rt, file.path, file.size, &bytes)?;
+    file.size = bytes.len();
+    Ok(())
+}
+
+// What was laid is put into the file, and only then is said. Where it cannot be, the command says that.
+fn laid<S: Shelf + Drop, W: fmt::Display + Drop>(
+    rt: &HostRuntime,
+    head: &str,
+    desk: Desk<S>,
+    file: &mut ShelfFile<'_>,
+    done: W,
+) -> Left<S>
+    ensures { MatchOption result.0 ⊤ (λ d. (d.shelf ≡ desk.shelf) × (d.volume ≡ desk.volume)) }
+{
+    match keep(rt, &desk, file) {
+        Ok(()) => (Some(desk), say(rt, head, done)),
+        Err(e) => {
+            let path = file.path;
+            let said = not_run(rt, head, format_args!("cannot write {path}: {e}"));
+            (None, said)
+        }
+    }
+}
+
+fn open<S: Shelf + Drop>(rt: &HostRuntime, head: &str, desk: Desk<S>) -> Left<S>
+    ensures { IsSomeAnd result.0 (λ d. (d.shelf ≡ desk.shelf) × (d.volume ≡ desk.volume)) }
+{
+    let desk = desk.reopen();
+    let found = desk.opened();
+    let many = entries(found.entries);
+    let said = match found.standing {
+        Standing::Open => say(rt, head, format_args!("{many}, open")),
+        Standing::Closed => say(rt, head, format_args!("{many}, closed")),
+    };
+    (Some(desk), said)
+}
+
+// What taking in is handed beside the shelf.
+#[derive(Drop)]
+struct Brought {
+    file: Vec<u8>,
+    edition: EditionName,
+    payers: Vec<Row<u64>>,
+}
+
+fn bring(rt: &HostRuntime, head: &str, asked: FileAsked, payers: usize) -> Result<Brought, Undone> {
+    let file = bytes_of(rt, head, asked.path, fs::read(rt, asked.path))?;
+    let payers = vec![in rt.alloc(); Row::zero(); payers]?;
+    Ok(Brought {
+        file,
+        edition: asked.edition,
+        payers,
+    })
+}
+
+fn take_in<S: Shelf + Drop>(
+    rt: &HostRuntime,
+    head: &str,
+    desk: Desk<S>,
+    file: &mut ShelfFile<'_>,
+    brought: Result<Brought, Undone>,
+) -> Left<S>
+    ensures { MatchOption result.0 ⊤ (λ d. LeavesTaking (S.records desk.shelf) desk.volume (S.records d.shelf) d.volume) }
+{
+    let mut brought = match brought {
+        Ok(brought) => brought,
+        Err(e) => return (Some(desk), Err(e)),
+    };
+    let (desk, answer) = desk.take_in(&brought.file, &brought.edition, &mut brought.payers);
+    match answer {
+        Ok(entry) => laid(rt, head, desk, file, format_args!("entry {entry}")),
+        Err(NotLaid::Shut) => (
+            Some(desk),
+            not_run(rt, head, "the volume is closed; use another shelf"),
+        ),
+        Err(NotLaid::Refused(fault)) => (Some(desk), refused(rt, head, fault)),
+    }
+}
+
+fn close<S: Shelf + Drop>(
+    rt: &HostRuntime,
+    head: &str,
+    desk: Desk<S>,
+    file: &mut ShelfFile<'_>,
+) -> Left<S>
+    ensures { MatchOption result.0 ⊤ (λ d. LeavesClosing (S.records desk.shelf) desk.volume (S.records d.shelf) d.volume) }
+{
+    let (desk, answer) = desk.close();
+    match answer {
+        Ok(many) => {
+            let many = entries(many);
+            laid(rt, head, desk, file, format_args!("{many}, closed"))
+        }
+        Err(NotLaid::Shut) => (Some(desk), not_run(rt, head, "the volume is closed")),
+        Err(NotLaid::Refused(fault)) => (Some(desk), refused(rt, head, fault)),
+    }
+}
+
+fn fetch<S: Shelf + Drop>(
+    rt: &HostRuntime,
+    head: &str,
+    desk: &Desk<S>,
+    entry: usize,
+    number: usize,
+) -> Done {
+    let mut record = [0u8; 80];
+    if let Err(fault) = desk.fetch(entry, number, &mut record) {
+        return refused(rt, head, fault);
+    }
+    let line = RecordLine(record);
+    println!(rt; "{head}:")?;
+    print!(rt; "{line}")?;
+    Ok(())
+}
+
+// Runs a command at a desk.
+fn at_desk<S: Shelf + Drop>(
+    rt: &HostRuntime,
+    head: &str,
+    desk: Desk<S>,
+    file: &mut ShelfFile<'_>,
+    asked: AtShelf,
+    payers: usize,
+) -> Left<S>
+    ensures { MatchOption result.0 (Lays asked.entry) (λ d. Leaves asked.entry (S.records desk.shelf) desk.volume (S.records d.shelf) d.volume) }
+{
+    match asked {
+        AtShelf::Open => open(rt, head, desk),
+        AtShelf::TakeIn(asked) => {
+            let brought = bring(rt, head, asked, payers);
+            take_in(rt, head, desk, file, brought)
+        }
+        AtShelf::Close => close(rt, head, desk, file),
+        AtShelf::Fetch { entry, number } => {
+            let fetched = fetch(rt, head, &desk, entry, number);
+            (Some(desk), fetched)
+        }
+    }
+}
+
+fn seat_of<S: Shelf + Drop>(left: Option<Desk<S>>) -> Seat<S> {
+    match left {
+        Some(desk) => Seat::At(desk),
+        None => Seat::Unwritten,
+    }
+}
+
+// Runs a command at the shelf, if there is one to run it at.
+pub fn at_seat<S: Shelf + Drop>(
+    rt: &HostRuntime,
+    head: &str,
+    seat: Seat<S>,
+    file: &mut ShelfFile<'_>,
+    asked: AtShelf,
+    payers: usize,
+) -> Turn<S> {
+    match seat {
+        Seat::NoShelf => (Seat::NoShelf, not_run(rt, head, "no shelf is named")),
+        Seat::Shut(fault) => (Seat::Shut(fault), refused(rt, head, fault)),
+        Seat::Unwritten => (Seat::Unwritten, not_run(rt, head, UNWRITTEN)),
+        Seat::At(desk) => {
+            let (left, answer) = at_desk(rt, head, desk, file, asked, payers);
+            (seat_of(left), answer)
+        }
+    }
+}
