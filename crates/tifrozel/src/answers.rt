@@ -1,5 +1,5 @@
 // What every command prints that does not do what it was asked.
-ghost use Rattle.std.specs.Prelude.{◌≡◌};
+ghost use Rattle.std.specs.Prelude.{◌≡◌, false, is_ok, IfOk, Ok};
 ghost use Rattle.tifrozel.specs.declared.answers.Undone.TheVariants.{System};
 
 use filing::{VolumeFault, refusal_within};
@@ -35,7 +35,9 @@ impl From<AllocError> for Undone {
 }
 
 // Prints what failed, where nothing has been said of it yet.
-pub fn tell(rt: &HostRuntime, head: &str, answer: Done) -> Done {
+pub fn tell(rt: &HostRuntime, head: &str, answer: Done) -> Done
+    ensures { is_ok result ≡ is_ok answer }
+{
     match answer {
         Err(Undone::System(e)) => not_run(rt, head, e),
         told => told,
@@ -43,13 +45,17 @@ pub fn tell(rt: &HostRuntime, head: &str, answer: Done) -> Done {
 }
 
 // A command that cannot run says why. `head` is the command's words without its edition, here and below.
-pub fn not_run<W: fmt::Display + Drop>(rt: &HostRuntime, head: &str, why: W) -> Done {
+pub fn not_run<W: fmt::Display + Drop>(rt: &HostRuntime, head: &str, why: W) -> Done
+    ensures { is_ok result ≡ false }
+{
     println!(rt; "{head}: not run, {why}")?;
     Err(Undone::Told)
 }
 
 // A refusal, and behind it the file's refusal that an entry cannot be read for.
-pub fn refused(rt: &HostRuntime, head: &str, fault: VolumeFault) -> Done {
+pub fn refused(rt: &HostRuntime, head: &str, fault: VolumeFault) -> Done
+    ensures { is_ok result ≡ false }
+{
     let refusal = Refusal::from(fault);
     match refusal_within(fault) {
         Some(cause) => println!(rt; "{head}: refused {refusal}: {cause}")?,
@@ -69,7 +75,9 @@ pub fn bytes_of(
     head: &str,
     path: &str,
     read: io::Result<Vec<u8>>,
-) -> Result<Vec<u8>, Undone> {
+) -> Result<Vec<u8>, Undone>
+    ensures { IfOk result (λ bytes. read ≡ Ok bytes) }
+{
     match read {
         Ok(bytes) => Ok(bytes),
         Err(e) => {
@@ -95,7 +103,9 @@ impl fmt::Display for Counted {
     }
 }
 
-pub fn records(many: usize) -> Counted {
+pub fn records(many: usize) -> Counted
+    ensures { result.many ≡ many }
+{
     Counted {
         many,
         one: "record",
@@ -103,7 +113,9 @@ pub fn records(many: usize) -> Counted {
     }
 }
 
-pub fn entries(many: usize) -> Counted {
+pub fn entries(many: usize) -> Counted
+    ensures { result.many ≡ many }
+{
     Counted {
         many,
         one: "entry",

@@ -54,6 +54,10 @@ fn size_of(rt: &HostRuntime, path: &str) -> io::Result<u64> {
     }
 }
 
+// What a file's name ends with until it takes the old one's place. What was left under such a name is written over, so it is no name
+// that a shelf might have.
+const UNFINISHED: &str = ".tifrozel-unfinished";
+
 // Puts the bytes in the place of a file that was `known` bytes long: written beside it, synced, then renamed. Whoever else
 // works at a shelf in that folder waits meanwhile, and a file that is not as long as it was is left as it is.
 pub fn replace(rt: &HostRuntime, path: &str, known: usize, bytes: &[u8]) -> io::Result<()> {
@@ -64,7 +68,7 @@ pub fn replace(rt: &HostRuntime, path: &str, known: usize, bytes: &[u8]) -> io::
     if size_of(rt, target)? != known as u64 {
         return Err(Error::new(ErrorKind::Other, "it has changed meanwhile"));
     }
-    let beside = format!(in rt.alloc(); "{target}.new")?;
+    let beside = format!(in rt.alloc(); "{target}{UNFINISHED}")?;
     let mut file = File::create(rt, beside.as_str())?;
     if let Ok(found) = fs::metadata(rt, target) {
         file.set_permissions(found.permissions())?;

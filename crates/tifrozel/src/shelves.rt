@@ -1,5 +1,7 @@
 // The commands at a shelf: `open`, `take-in`, `close` and `fetch`.
-ghost use Rattle.std.specs.Prelude.{◌≡◌, ⊤, IsSomeAnd, MatchOption};
+ghost use Rattle.std.specs.Prelude.{◌≡◌, ⊤, true, is_ok, OnOk, IsSomeAnd, MatchOption};
+ghost use Rattle.filing.specs.Volumes.{entries_of};
+ghost use Rattle.volume.specs.Taking.{fetched};
 ghost use Rattle.tifrozel.specs.Commands.{Lays, Leaves, LeavesTaking, LeavesClosing};
 
 use crate::answers::{Done, Undone, bytes_of, entries, not_run, refused};
@@ -157,7 +159,9 @@ fn fetch<S: Shelf + Drop>(
     desk: &Desk<S>,
     entry: usize,
     number: usize,
-) -> Done {
+) -> Done
+    ensures { OnOk result (is_ok (fetched entry number (entries_of (S.records desk.now.shelf))) ≡ true) }
+{
     let mut record = [0u8; 80];
     if let Err(fault) = desk.fetch(entry, number, &mut record) {
         return refused(rt, head, fault);
