@@ -22,7 +22,7 @@ pub enum Seat<S: Shelf> {
     At(Desk<S>),
     // opening it was refused
     Shut(VolumeFault),
-    // something was laid that could not be written to its file, which is as it was
+    // something was laid that is not known to be in its file
     Unwritten,
 }
 
