@@ -1,11 +1,19 @@
--- What the commands at a shelf leave of its records and of its volume. What they print, and what is in a file that they read, no term can say.
-use Rattle.std.specs.Prelude.{◌≡◌, ℕ, Result, ⊤}
-use Rattle.filing.specs.Volumes.{Records}
+-- What the commands at a shelf leave of its records and of its volume, and when they may be said to be done. What they print, and what is in a file that they
+-- read, no term can say.
+use Rattle.std.specs.Prelude.{◌≡◌, ℕ, ◌⊎◌, List, true, is_ok, Result, ⊤}
+use Rattle.manual.specs.Accepting.{front}
+use Rattle.manual.specs.Judging.{check_of}
+use Rattle.manual.specs.Laws.{judging}
+use Rattle.manual.specs.Slots.{slots}
+use Rattle.filing.specs.Volumes.{Records, entries_of}
+use Rattle.volume.specs.Taking.{fetched}
 use Rattle.volume.specs.declared.tokens.Volume.{Volume}
 use Rattle.tifrozel.specs.declared.desk.NotLaid.{NotLaid}
 use Rattle.tifrozel.specs.declared.requests.AtShelf.{AtShelf}
 use Rattle.tifrozel.specs.declared.requests.AtShelf.TheVariants.{Open, TakeIn, Close, Fetch}
-use Rattle.tifrozel.specs.Desks.{taking_records, taking_volume, closing_records, closing_volume}
+use Rattle.tifrozel.specs.declared.words.EditionName.{EditionName}
+use Rattle.tifrozel.specs.Desks.{taking_answer, taking_records, taking_volume, closing_answer, closing_records, closing_volume}
+use Rattle.tifrozel.specs.Editions.{meant}
 
 -- whether the command can lay something, and so leave what could not be written
 abbrev pub Lays : AtShelf → Type 0
@@ -14,17 +22,36 @@ Lays (TakeIn f) = ⊤
 Lays Close = ⊤
 Lays (Fetch k n) = ⊥
 
--- taking in: some file's records were taken in, or nothing changed
-abbrev pub LeavesTaking : Records → Volume → Records → Volume → Type 0
-LeavesTaking rs v after w = (answer : Result ℕ NotLaid) × ((e : Records) × ((after ≡ taking_records answer rs v e) × (w ≡ taking_volume answer rs v e)))
+-- taking in a file of these bytes under this edition, with so many rows for payers, at a desk with this limit: what is answered
+abbrev pub file_answer : ℕ → EditionName → List ℕ → ℕ → Records → Volume → Result ℕ NotLaid
+file_answer payers edition bytes limit rs v = taking_answer (check_of (judging payers) (meant edition) bytes) limit rs v (front (slots bytes))
+
+-- and what is left
+abbrev pub LeavesTaking : ℕ → EditionName → List ℕ → ℕ → Records → Volume → Records → Volume → Type 0
+LeavesTaking payers edition bytes limit rs v after w =
+    let answer = file_answer payers edition bytes limit rs v in
+    (after ≡ taking_records answer rs v (front (slots bytes))) × (w ≡ taking_volume answer rs v (front (slots bytes)))
+
+-- nothing is changed
+abbrev pub Kept : Records → Volume → Records → Volume → Type 0
+Kept rs v after w = (after ≡ rs) × (w ≡ v)
 
 -- closing: the closing record was laid, or nothing changed as the volume was closed
 abbrev pub LeavesClosing : Records → Volume → Records → Volume → Type 0
 LeavesClosing rs v after w = (after ≡ closing_records v rs) × (w ≡ closing_volume v)
 
--- a command: opening and fetching change nothing
-abbrev pub Leaves : AtShelf → Records → Volume → Records → Volume → Type 0
-Leaves Open rs v after w = (after ≡ rs) × (w ≡ v)
-Leaves (TakeIn f) rs v after w = LeavesTaking rs v after w
-Leaves Close rs v after w = LeavesClosing rs v after w
-Leaves (Fetch k n) rs v after w = (after ≡ rs) × (w ≡ v)
+-- a command, with so many rows for payers, at a desk with this limit: opening and fetching change nothing; taking in leaves what taking in the
+-- bytes that were read leaves, under the edition that was asked for, or nothing is changed where they could not be read
+abbrev pub Leaves : AtShelf → ℕ → ℕ → Records → Volume → Records → Volume → Type 0
+Leaves Open payers limit rs v after w = Kept rs v after w
+Leaves (TakeIn f) payers limit rs v after w = Kept rs v after w ⊎ ((bytes : List ℕ) × LeavesTaking payers f.edition bytes limit rs v after w)
+Leaves Close payers limit rs v after w = LeavesClosing rs v after w
+Leaves (Fetch k n) payers limit rs v after w = Kept rs v after w
+
+-- when a command may be said to be done: taking in where some bytes were read and their file was taken in, closing where the volume was open, fetching where
+-- there is such a record
+abbrev pub Does : AtShelf → ℕ → ℕ → Records → Volume → Type 0
+Does Open payers limit rs v = ⊤
+Does (TakeIn f) payers limit rs v = (bytes : List ℕ) × (is_ok (file_answer payers f.edition bytes limit rs v) ≡ true)
+Does Close payers limit rs v = is_ok (closing_answer v) ≡ true
+Does (Fetch k n) payers limit rs v = is_ok (fetched k n (entries_of rs)) ≡ true

@@ -1,8 +1,11 @@
 // The commands at a shelf: `open`, `take-in`, `close` and `fetch`.
-ghost use Rattle.std.specs.Prelude.{◌≡◌, ⊤, true, is_ok, OnOk, IsSomeAnd, MatchOption};
+ghost use Rattle.std.specs.Prelude.{◌≡◌, ◌⊎◌, ⊤, true, false, length, is_ok, IfOk, OnOk, IsSomeAnd, MatchOption, MatchResult};
 ghost use Rattle.filing.specs.Volumes.{entries_of};
 ghost use Rattle.volume.specs.Taking.{fetched};
-ghost use Rattle.tifrozel.specs.Commands.{Lays, Leaves, LeavesTaking, LeavesClosing};
+ghost use Rattle.filing.specs.declared.faults.VolumeFault.{VolumeFault};
+ghost use Rattle.tifrozel.specs.declared.shelves.Seat.TheVariants.{NoShelf, At, Shut, Unwritten};
+ghost use Rattle.tifrozel.specs.Desks.{closing_answer};
+ghost use Rattle.tifrozel.specs.Commands.{Does, Kept, Lays, Leaves, LeavesTaking, LeavesClosing, file_answer};
 
 use crate::answers::{Done, Undone, bytes_of, entries, not_run, refused};
 use crate::desk::{Desk, NotLaid};
@@ -100,7 +103,9 @@ struct Brought {
     payers: Vec<Row<u64>>,
 }
 
-fn bring(rt: &HostRuntime, head: &str, asked: FileAsked, payers: usize) -> Result<Brought, Undone> {
+fn bring(rt: &HostRuntime, head: &str, asked: FileAsked, payers: usize) -> Result<Brought, Undone>
+    ensures { IfOk result (λ b. (b.edition ≡ asked.entry.edition) × (length b.payers.items ≡ payers)) }
+{
     let file = bytes_of(rt, head, asked.path, fs::read(rt, asked.path))?;
     let payers = vec![in rt.alloc(); Row::zero(); payers]?;
     Ok(Brought {
@@ -117,7 +122,9 @@ fn take_in<S: Shelf + Drop>(
     file: &mut ShelfFile<'_>,
     brought: Result<Brought, Undone>,
 ) -> Left<S>
-    ensures { MatchOption result.0 ⊤ (λ d. LeavesTaking (S.records desk.shelf) desk.volume (S.records d.shelf) d.volume) }
+    ensures left { MatchOption result.0 ⊤ (λ d. MatchResult brought (λ b. LeavesTaking (length b.payers.items) b.edition b.file.items (S.room desk.shelf) (S.records desk.shelf) desk.volume (S.records d.shelf) d.volume) (λ _. Kept (S.records desk.shelf) desk.volume (S.records d.shelf) d.volume)) }
+    ensures limit { MatchOption result.0 ⊤ (λ d. S.room d.shelf ≡ S.room desk.shelf) }
+    ensures done { OnOk result.1 (MatchResult brought (λ b. is_ok (file_answer (length b.payers.items) b.edition b.file.items (S.room desk.shelf) (S.records desk.shelf) desk.volume) ≡ true) (λ _. ⊥)) }
 {
     let mut brought = match brought {
         Ok(brought) => brought,
@@ -140,7 +147,9 @@ fn close<S: Shelf + Drop>(
     desk: Desk<S>,
     file: &mut ShelfFile<'_>,
 ) -> Left<S>
-    ensures { MatchOption result.0 ⊤ (λ d. LeavesClosing (S.records desk.shelf) desk.volume (S.records d.shelf) d.volume) }
+    ensures left { MatchOption result.0 ⊤ (λ d. LeavesClosing (S.records desk.shelf) desk.volume (S.records d.shelf) d.volume) }
+    ensures limit { MatchOption result.0 ⊤ (λ d. S.room d.shelf ≡ S.room desk.shelf) }
+    ensures done { OnOk result.1 (is_ok (closing_answer desk.volume) ≡ true) }
 {
     let (desk, answer) = desk.close();
     match answer {
@@ -181,7 +190,9 @@ fn at_desk<S: Shelf + Drop>(
     asked: AtShelf,
     payers: usize,
 ) -> Left<S>
-    ensures { MatchOption result.0 (Lays asked.entry) (λ d. Leaves asked.entry (S.records desk.shelf) desk.volume (S.records d.shelf) d.volume) }
+    ensures left { MatchOption result.0 (Lays asked.entry) (λ d. Leaves asked.entry payers (S.room desk.shelf) (S.records desk.shelf) desk.volume (S.records d.shelf) d.volume) }
+    ensures limit { MatchOption result.0 ⊤ (λ d. S.room d.shelf ≡ S.room desk.shelf) }
+    ensures done { OnOk result.1 (Does asked.entry payers (S.room desk.shelf) (S.records desk.shelf) desk.volume) }
 {
     match asked {
         AtShelf::Open => open(rt, head, desk),
@@ -197,7 +208,9 @@ fn at_desk<S: Shelf + Drop>(
     }
 }
 
-fn seat_of<S: Shelf + Drop>(left: Option<Desk<S>>) -> Seat<S> {
+fn seat_of<S: Shelf + Drop>(left: Option<Desk<S>>) -> Seat<S>
+    ensures { MatchOption left (result ≡ Unwritten) (λ d. result ≡ At d) }
+{
     match left {
         Some(desk) => Seat::At(desk),
         None => Seat::Unwritten,
@@ -212,7 +225,13 @@ pub fn at_seat<S: Shelf + Drop>(
     file: &mut ShelfFile<'_>,
     asked: AtShelf,
     payers: usize,
-) -> Turn<S> {
+) -> Turn<S>
+    ensures none { seat ≡ NoShelf → (result.0 ≡ NoShelf) × (is_ok result.1 ≡ false) }
+    ensures shut { (e : VolumeFault) → seat ≡ Shut e → (result.0 ≡ Shut e) × (is_ok result.1 ≡ false) }
+    ensures unwritten { seat ≡ Unwritten → (result.0 ≡ Unwritten) × (is_ok result.1 ≡ false) }
+    ensures desk { (d : _) → seat ≡ At d → ((result.0 ≡ Unwritten) × Lays asked.entry) ⊎ ((after : _) × ((result.0 ≡ At after) × Leaves asked.entry payers (S.room d.shelf) (S.records d.shelf) d.volume (S.records after.shelf) after.volume)) }
+    ensures done { (d : _) → seat ≡ At d → OnOk result.1 (Does asked.entry payers (S.room d.shelf) (S.records d.shelf) d.volume) }
+{
     match seat {
         Seat::NoShelf => (Seat::NoShelf, not_run(rt, head, "no shelf is named")),
         Seat::Shut(fault) => (Seat::Shut(fault), refused(rt, head, fault)),
