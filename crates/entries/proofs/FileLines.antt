@@ -3,7 +3,7 @@ use Rattle.std.proofs.Common.{◌≡◌, ℕ, zero, suc, ◌+◌, ◌<◌, ◌�
 use Rattle.record.specs.declared.lines.LineEnd.{LineEnd}
 use Rattle.record.specs.Lines.{cut, width}
 use Rattle.manual.specs.Slots.{Slot, whole, broken, after_cut, slots_in, slots}
-use Rattle.manual.specs.Accepting.{front}
+use Rattle.manual.specs.Slots.{front}
 use Rattle.shelf.specs.Answers.{added}
 use Rattle.shelf.proofs.Calls.{added_is}
 use Rattle.filing.specs.declared.deposits.Deposits.{Deposits}

@@ -1,7 +1,7 @@
 // The whole records at the front of a file, line by line: how many they are, and onto a shelf.
 ghost use Rattle.std.specs.Prelude.{◌≡◌, ◌+◌, ◌≤◌, ◌++◌, length};
 ghost use Rattle.manual.specs.Slots.{slots};
-ghost use Rattle.manual.specs.Accepting.{front};
+ghost use Rattle.manual.specs.Slots.{front};
 ghost use Rattle.filing.specs.Entries.{deposits_from, no_deposits};
 
 use file::Lines;

@@ -28,7 +28,7 @@ use Rattle.manual.specs.Slots.{Slot, whole, broken, slots}
 use Rattle.manual.specs.Judging.{State, Section as OpenSection, one_currency, among, may_follow, moved, core_tests, tests, place_after, section_after, begin, ended, slot_step, step, judge, check_of}
 use Rattle.manual.specs.Laws.{NotBefore, NoRiderFault, of_payers, judging, not_judging}
 use Rattle.manual.specs.Manual.{Line, records, Reading, Follows}
-use Rattle.manual.specs.Accepting.{front}
+use Rattle.manual.specs.Slots.{front}
 use Rattle.manual.proofs.Roles.{role_of}
 use Rattle.manual.proofs.Steps.{Passes, passed}
 use Rattle.manual.proofs.Bounds.{Bounded, Modest, bounded_begin, bounded_kept, bounded_on, same_after, read_kind, read_modest}
@@ -142,7 +142,7 @@ few_of (r ∷ rs) n s x e few h q =
     let a = step_ok (leb (suc n) 50000) (slot_step not_judging bare s (slot_of r)) (suc n) (λ t. judge not_judging bare (suc (suc n)) t (entry_slots rs)) e q in
     few_of rs (suc n) a.1.0 (deposits_behind x (class_of bare r)) e (leb-true _ _ a.0) (over n s x few h r (class_of bare r) a.1.0 (seen bare r) (slot_ok (every is_text r) s a.1.0 r a.1.1)) a.1.2
 
-then_ok : (o : Result End FileFault) (x : Deposits) (t : Totals) → then o (λ e. Ok (totals_of e x)) ≡ Ok t → (e : End) × (o ≡ Ok e) × (totals_of e x ≡ t)
+pub then_ok : (o : Result End FileFault) (x : Deposits) (t : Totals) → then o (λ e. Ok (totals_of e x)) ≡ Ok t → (e : End) × (o ≡ Ok e) × (totals_of e x ≡ t)
 then_ok (Ok e) x t q = (e, refl, cc)
 then_ok (Err f) x t q = let z : ◌≡◌ {A = ℕ} 0 1 = cc in absurd (omega arith)
 

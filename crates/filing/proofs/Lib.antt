@@ -1,8 +1,12 @@
 pub mod Codes
 pub mod FilingLaws
 pub mod Fitting
+pub mod Giving
 pub mod Holds
 pub mod Laid
+pub mod Lies
 pub mod Opens
+pub mod Proved
+pub mod Readings
 pub mod Results
 pub mod Stands

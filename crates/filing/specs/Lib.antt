@@ -1,4 +1,5 @@
 pub mod Entries
+pub mod Readings
 pub mod Refusals
 pub mod Volumes
 pub mod Laws

@@ -29,10 +29,18 @@ abbrev pub totals_or : Result Totals FileFault → Totals
 totals_or (Ok t) = t
 totals_or (Err e) = no_totals
 
+-- the trailer of an entry that comes to this and lies behind so many entries, in so many records
+abbrev pub trailer_with : ℕ → ℕ → Records → Totals → Trailer
+trailer_with entries places e totals = record { records = length e; entry = suc entries; previous = places; totals = totals }
+
+-- what stands behind so many entries, of which the last trailer has this number: the closing record that says both, or nothing
+abbrev pub closing_behind : Standing → ℕ → ℕ → Records
+closing_behind Open entries last = []
+closing_behind Closed entries last = closing_of entries last ∷ []
+
 module _ (reads : Reads) where
-  -- the trailer of an entry that lies behind so many entries, in so many records
   abbrev pub trailer_behind : ℕ → ℕ → Records → Trailer
-  trailer_behind entries places e = record { records = length e; entry = suc entries; previous = places; totals = totals_or (reads e) }
+  trailer_behind entries places e = trailer_with entries places e (totals_or (reads e))
 
   -- entries with their trailers as they lie; the list has the newest first
   unfoldable pub laid : List Records → Records
@@ -48,10 +56,9 @@ module _ (reads : Reads) where
   lay_from k places [] = []
   lay_from k places (e ∷ es) = (e ++ trailer_of (trailer_behind k places e) ∷ []) ++ lay_from (k + 1) (places + length e + 1) es
 
-  -- what stands behind the entries: the closing record, which says how many they are and where the last trailer is, or nothing
+  -- what stands behind the entries
   abbrev pub tail : Standing → List Records → Records
-  tail Open es = []
-  tail Closed es = closing_of (length es) (length (lay es)) ∷ []
+  tail s es = closing_behind s (length es) (length (lay es))
 
   -- the volume of these entries, open or closed
   abbrev pub volume : Standing → List Records → Records

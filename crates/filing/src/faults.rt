@@ -1,9 +1,9 @@
 ghost use Rattle.std.specs.Prelude.{◌≡◌};
 ghost use Rattle.filing.specs.declared.faults.VolumeFault.TheVariants.{File as OfFile};
-ghost use Rattle.filing.specs.Refusals.{volume_refusal, file_within};
+ghost use Rattle.filing.specs.Refusals.{volume_refusal, at_volume as volume_told, unreadable as unreadable_told, in_entry as entry_told};
 
 use manual::FileFault;
-use refusal::{Layer, Place, Reason, Refusal};
+use refusal::{FileRefusal, Layer, Place, Reason, Refusal};
 
 // Why a call of a volume is refused.
 #[derive(Clone, Copy, Debug, PartialEq, Eq)]
@@ -26,6 +26,14 @@ pub enum VolumeFault {
     Differs(usize),
     // the closing record does not say how many entries there are, or has not its zeros
     ClosingDiffers,
+    // the entry with this number has a rider that the reader's edition finds ill-formed or at a wrong level, and where
+    Rider(usize, FileFault),
+    // the caller's table has too few rows for those of an entry; so many are needed
+    RowsShort(usize),
+    // the caller's table has too few rows for a balance
+    BalanceShort,
+    // the caller's buffer has too few bytes for the plain copy of an entry; so many are needed
+    CopyShort(usize),
 }
 
 impl From<FileFault> for VolumeFault {
@@ -41,35 +49,62 @@ impl From<VolumeFault> for Refusal {
     ghost from_gives = { λ fault r. r ≡ volume_refusal fault };
 
     fn from(fault: VolumeFault) -> Refusal {
-        let (reason, place) = match fault {
-            VolumeFault::File(e) => return Refusal::from(e),
-            VolumeFault::Marked => (Reason::MarkedTest, None),
-            VolumeFault::SameStamp(entry) => (Reason::SameTimeStamp, Some(Place::Entry(entry))),
-            VolumeFault::NoRoom => (Reason::NoRoom, None),
-            VolumeFault::NoEntry(entry) => (Reason::NoEntry, Some(Place::Entry(entry))),
-            VolumeFault::NoTrailer(n) => (Reason::NoTrailer, Some(Place::ShelfRecord(n))),
-            VolumeFault::Unreadable(entry, _) => (
-                Reason::EntryUnreadable,
-                Some(Place::Entry(entry)),
-            ),
-            VolumeFault::Differs(entry) => (Reason::TrailerDisagrees, Some(Place::Entry(entry))),
+        match fault {
+            VolumeFault::File(e) => Refusal::from(e),
+            VolumeFault::Unreadable(entry, e) => unreadable(entry, FileRefusal::from(e)),
+            VolumeFault::Rider(entry, e) => in_entry(entry, FileRefusal::from(e)),
+            VolumeFault::Marked => at_volume(Reason::MarkedTest, None),
+            VolumeFault::SameStamp(entry) => {
+                at_volume(Reason::SameTimeStamp, Some(Place::Entry(entry)))
+            }
+            VolumeFault::NoRoom => at_volume(Reason::NoRoom, None),
+            VolumeFault::NoEntry(entry) => at_volume(Reason::NoEntry, Some(Place::Entry(entry))),
+            VolumeFault::NoTrailer(n) => at_volume(Reason::NoTrailer, Some(Place::ShelfRecord(n))),
+            VolumeFault::Differs(entry) => {
+                at_volume(Reason::TrailerDisagrees, Some(Place::Entry(entry)))
+            }
             // the closing record is told as entry 0
-            VolumeFault::ClosingDiffers => (Reason::TrailerDisagrees, Some(Place::Entry(0))),
-        };
-        Refusal {
-            reason,
-            layer: Layer::Volume,
-            place,
+            VolumeFault::ClosingDiffers => {
+                at_volume(Reason::TrailerDisagrees, Some(Place::Entry(0)))
+            }
+            VolumeFault::RowsShort(n) => at_volume(Reason::RowTableShort, Some(Place::Rows(n))),
+            VolumeFault::BalanceShort => at_volume(Reason::BalanceTableShort, None),
+            VolumeFault::CopyShort(n) => at_volume(Reason::CopyBufferShort, Some(Place::Bytes(n))),
         }
     }
 }
 
-// The file's refusal that comes with an entry that cannot be read.
-pub fn refusal_within(fault: VolumeFault) -> Option<Refusal>
-    ensures { result ≡ file_within fault }
+fn at_volume(reason: Reason, place: Option<Place>) -> Refusal
+    ensures { result ≡ volume_told reason place }
 {
-    match fault {
-        VolumeFault::Unreadable(_, e) => Some(Refusal::from(e)),
-        _ => None,
+    Refusal {
+        reason,
+        layer: Layer::Volume,
+        place,
+        within: None,
+    }
+}
+
+// The refusal of an entry that cannot be read, with the file's entire.
+fn unreadable(entry: usize, file: FileRefusal) -> Refusal
+    ensures { result ≡ unreadable_told entry file }
+{
+    Refusal {
+        reason: Reason::EntryUnreadable,
+        layer: Layer::Volume,
+        place: Some(Place::Entry(entry)),
+        within: Some(file),
+    }
+}
+
+// A file's refusal, told of the record in its entry.
+fn in_entry(entry: usize, file: FileRefusal) -> Refusal
+    ensures { result ≡ entry_told entry file }
+{
+    Refusal {
+        reason: file.reason,
+        layer: Layer::File,
+        place: Some(Place::EntryRecord { entry, at: file.at }),
+        within: None,
     }
 }

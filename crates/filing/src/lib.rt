@@ -3,8 +3,10 @@
 
 mod deposits;
 mod faults;
+mod laws;
 mod standing;
 
 pub use deposits::Deposits;
-pub use faults::{VolumeFault, refusal_within};
+pub use faults::VolumeFault;
+pub use laws::filing_laws;
 pub use standing::{Opened, Standing};

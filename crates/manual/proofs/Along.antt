@@ -10,7 +10,8 @@ use Rattle.record.specs.declared.classes.Class.{Class}
 use Rattle.record.specs.declared.classes.Class.TheVariants as class
 use Rattle.record.specs.Layouts.{read_core}
 use Rattle.record.specs.Reserve.{used}
-use Rattle.record.specs.Classes.{code_in, class_of}
+use Rattle.record.specs.Codes.{code_in}
+use Rattle.record.specs.Classes.{class_of}
 use Rattle.record.specs.Editions.{Meaning}
 use Rattle.record.specs.Laws.{kind_at}
 use Rattle.manual.specs.Manual.{Read, leaf, read_by, core_then, cores, last_of, last_kind, level_after}

@@ -72,7 +72,7 @@ bounded_on mode n s (end x) b m = omega arith
 -- Tests.
 
 -- a deduction comes in order where a payment does, and one extra reference where the other does
-in_pairs : (p : Place) → (may_follow p kind.Deduction ≡ may_follow p kind.Payment) × (may_follow p kind.NegativeReference ≡ may_follow p kind.ExtraReference)
+pub in_pairs : (p : Place) → (may_follow p kind.Deduction ≡ may_follow p kind.Payment) × (may_follow p kind.NegativeReference ≡ may_follow p kind.ExtraReference)
 in_pairs place.Fresh = (refl, refl)
 in_pairs place.Begun = (refl, refl)
 in_pairs place.Opened = (refl, refl)
@@ -95,7 +95,7 @@ ordered : (ts : List (Bool × Cause)) {a b : Bool} → a ≡ b → ◌≡◌ {A 
 ordered ts {a} e = λ i. ((and_true a ∙ e) i, cause.Order) ∷ ts
 
 -- a capped sum is the plain sum, or both are more than what is below the cap
-same_sum : (x y z : ℕ) → z < 2 ^ 64 - 1 → eqb (capped x y) z ≡ eqb (x + y) z
+pub same_sum : (x y z : ℕ) → z < 2 ^ 64 - 1 → eqb (capped x y) z ≡ eqb (x + y) z
 same_sum x y z h = grind arith
 
 pub same_tests : (mode : Mode) (n : ℕ) (s : State) (c : Core) (t : List ℕ) → n ≤ 50000 → Bounded n s → core_tests mode s (kind_in c) (Ok c) ≡ role_tests mode s (role_of c t)

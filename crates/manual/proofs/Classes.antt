@@ -10,7 +10,8 @@ use Rattle.record.specs.declared.classes.Class.{Class}
 use Rattle.record.specs.declared.classes.Class.TheVariants as class
 use Rattle.record.specs.Kinds.{code_of, kind_of}
 use Rattle.record.specs.Layouts.{read_core}
-use Rattle.record.specs.Classes.{by_level, class_by, class_in, code_in, class_of}
+use Rattle.record.specs.Codes.{code_in}
+use Rattle.record.specs.Classes.{by_level, class_by, class_in, class_of}
 use Rattle.record.specs.Editions.{Meaning}
 use Rattle.record.specs.Laws.{kind_at}
 

@@ -8,7 +8,8 @@ use Rattle.record.specs.declared.classes.Rider.{Rider}
 use Rattle.record.specs.declared.classes.Class.{Class}
 use Rattle.record.specs.declared.classes.Class.TheVariants as class
 use Rattle.record.specs.Kinds.{kind_of}
-use Rattle.record.specs.Classes.{by_level, class_by, class_in, code_in, class_of}
+use Rattle.record.specs.Codes.{code_in}
+use Rattle.record.specs.Classes.{by_level, class_by, class_in, class_of}
 use Rattle.record.specs.Editions.{Meaning, bare}
 use Rattle.manual.specs.declared.faults.Cause.{Cause}
 use Rattle.manual.specs.declared.faults.Cause.TheVariants as cause

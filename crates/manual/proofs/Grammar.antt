@@ -1,5 +1,5 @@
 -- The machine passes over core records exactly where they are those of a reading, in order.
-use Rattle.std.proofs.Common.{◌≡◌, ℕ, ◌+◌, ◌<◌, Bool, true, false, ◌&&◌, eqb, ltb, List, [], ◌∷◌, length, sym, refl, ap, ◌∙◌, subst, arith}
+use Rattle.std.proofs.Common.{◌≡◌, ◌+◌, ◌<◌, Bool, true, false, ◌&&◌, eqb, ltb, List, [], ◌∷◌, length, sym, refl, ap, ◌∙◌, subst, arith}
 use Rattle.std.specs.List.{AllByRecursion}
 use Rattle.std.proofs.lemmas.Bool.{false≢true, eqb-true, eq-eqb, and_parts, and_from}
 use Rattle.record.specs.declared.kinds.Kind.TheVariants as kind
@@ -11,9 +11,8 @@ use Rattle.manual.specs.declared.places.Stage.{Stage}
 use Rattle.manual.specs.declared.places.Stage.TheVariants as stage
 use Rattle.manual.specs.declared.places.Place.{Place}
 use Rattle.manual.specs.declared.places.Place.TheVariants as place
-use Rattle.manual.specs.Judging.{State, Section as OpenSection, Item as OpenItem, may_follow, room, same_counts, opened, headed, ended}
-use Rattle.manual.specs.Laws.{judging}
-use Rattle.manual.specs.Manual.{Read, Item, Section, Reading, total}
+use Rattle.manual.specs.Judging.{Mode, State, Section as OpenSection, Item as OpenItem, may_follow, room, same_counts, opened, headed, ended}
+use Rattle.manual.specs.Manual.{Read, Item, Section, Tree, total}
 use Rattle.manual.proofs.Roles.{Part, extra, info, name, address1, address2, company, Role, start, opening, head, part, deposit, end, part_kind, stage_after, place_behind, adds, takes, role_tests, is-payment, is_deduction, is_extra, is-deposit, counts_behind, with_head, section_behind, item-part, item_behind, behind, Run}
 use Rattle.manual.proofs.Steps.{Passes}
 use Rattle.manual.proofs.Trees.{written, parts_then, items_roles, sections_roles, roles, Closed, Parts-run}
@@ -50,7 +49,7 @@ now_ends c e x h =
     (and_from _ _ (eq-eqb e.extras c.extras (omega (arith, h.2))) (eq-eqb e.deposits c.deposits (omega (arith, h.3)))))
 
 -- an item may be followed by another, or by the deposit, exactly where it may end
-closed_head : (st : Stage) → may_follow (place.Within st) kind.Payment ≡ true → Closed st
+pub closed_head : (st : Stage) → may_follow (place.Within st) kind.Payment ≡ true → Closed st
 closed_head stage.Head h = tt
 closed_head stage.Information h = tt
 closed_head stage.Name h = tt
@@ -58,7 +57,7 @@ closed_head stage.HalfAddress h = false≢true h
 closed_head stage.Address h = tt
 closed_head stage.CompanyNumber h = tt
 
-head_closed : (st : Stage) → Closed st → (may_follow (place.Within st) kind.Payment ≡ true) × (may_follow (place.Within st) kind.Deposit ≡ true)
+pub head_closed : (st : Stage) → Closed st → (may_follow (place.Within st) kind.Payment ≡ true) × (may_follow (place.Within st) kind.Deposit ≡ true)
 head_closed stage.Head h = (refl, refl)
 head_closed stage.Information h = (refl, refl)
 head_closed stage.Name h = (refl, refl)
@@ -66,7 +65,7 @@ head_closed stage.HalfAddress h = absurd h
 head_closed stage.Address h = (refl, refl)
 head_closed stage.CompanyNumber h = (refl, refl)
 
-closed-deposit : (st : Stage) → may_follow (place.Within st) kind.Deposit ≡ true → Closed st
+pub closed-deposit : (st : Stage) → may_follow (place.Within st) kind.Deposit ≡ true → Closed st
 closed-deposit stage.Head h = tt
 closed-deposit stage.Information h = tt
 closed-deposit stage.Name h = tt
@@ -75,7 +74,7 @@ closed-deposit stage.Address h = tt
 closed-deposit stage.CompanyNumber h = tt
 
 -- no start, opening or end record comes in an item
-none_within : (st : Stage) → (may_follow (place.Within st) kind.Start ≡ false) × (may_follow (place.Within st) kind.Opening ≡ false) × (may_follow (place.Within st) kind.End ≡ false)
+pub none_within : (st : Stage) → (may_follow (place.Within st) kind.Start ≡ false) × (may_follow (place.Within st) kind.Opening ≡ false) × (may_follow (place.Within st) kind.End ≡ false)
 none_within stage.Head = (refl, refl, refl)
 none_within stage.Information = (refl, refl, refl)
 none_within stage.Name = (refl, refl, refl)
@@ -84,7 +83,7 @@ none_within stage.Address = (refl, refl, refl)
 none_within stage.CompanyNumber = (refl, refl, refl)
 
 -- a part of an item comes at no other place
-none-outside : (q : Part) → (may_follow place.Fresh (part_kind q) ≡ false) × (may_follow place.Begun (part_kind q) ≡ false) × (may_follow place.Opened (part_kind q) ≡ false) × (may_follow place.Between (part_kind q) ≡ false) × (may_follow place.Done (part_kind q) ≡ false)
+pub none-outside : (q : Part) → (may_follow place.Fresh (part_kind q) ≡ false) × (may_follow place.Begun (part_kind q) ≡ false) × (may_follow place.Opened (part_kind q) ≡ false) × (may_follow place.Between (part_kind q) ≡ false) × (may_follow place.Done (part_kind q) ≡ false)
 none-outside (extra b y) = (refl, refl, refl, refl, refl)
 none-outside (info t) = (refl, refl, refl, refl, refl)
 none-outside (name t) = (refl, refl, refl, refl, refl)
@@ -94,24 +93,24 @@ none-outside (company n) = (refl, refl, refl, refl, refl)
 
 -- What is still to come at each place.
 
-pub record Files (cap : ℕ) (c : End) (ls : List Role) : Type 0 where
+pub record Files (mode : Mode) (c : End) (ls : List Role) : Type 0 where
   pub sections : List Section
   pub close : Read End
   pub lies : ls ≡ sections_roles sections (end close ∷ [])
-  pub runs : AllByRecursion (Section-runs cap) sections
+  pub runs : AllByRecursion (Section-runs mode) sections
   pub counted : Ends c ls close.fields
 
-pub record Items (cap : ℕ) (c : End) (x : OpenSection) (ls : List Role) : Type 0 where
+pub record Items (mode : Mode) (c : End) (x : OpenSection) (ls : List Role) : Type 0 where
   items : List Item
   paid_in : Read Deposit
   sections : List Section
   close : Read End
   lies : ls ≡ items_roles items (deposit paid_in ∷ sections_roles sections (end close ∷ []))
-  heads : Heads-run cap x items paid_in
-  runs : AllByRecursion (Section-runs cap) sections
+  heads : Heads-run mode x items paid_in
+  runs : AllByRecursion (Section-runs mode) sections
   counted : Ends c ls close.fields
 
-pub record Parts (cap : ℕ) (c : End) (x : OpenSection) (st : Stage) (i : OpenItem) (ls : List Role) : Type 0 where
+pub record Parts (mode : Mode) (c : End) (x : OpenSection) (st : Stage) (i : OpenItem) (ls : List Role) : Type 0 where
   parts : List Part
   items : List Item
   paid_in : Read Deposit
@@ -119,31 +118,31 @@ pub record Parts (cap : ℕ) (c : End) (x : OpenSection) (st : Stage) (i : OpenI
   close : Read End
   lies : ls ≡ parts_then parts (items_roles items (deposit paid_in ∷ sections_roles sections (end close ∷ [])))
   body : Parts-run st i parts
-  heads : Heads-run cap x items paid_in
-  runs : AllByRecursion (Section-runs cap) sections
+  heads : Heads-run mode x items paid_in
+  runs : AllByRecursion (Section-runs mode) sections
   counted : Ends c ls close.fields
 
-pub record Whole (cap : ℕ) (c : End) (ls : List Role) : Type 0 where
-  pub reading : Reading
+pub record Whole (mode : Mode) (c : End) (ls : List Role) : Type 0 where
+  pub reading : Tree
   pub lies : ls ≡ roles reading
   pub some : 0 < length reading.sections
-  pub runs : AllByRecursion (Section-runs cap) reading.sections
+  pub runs : AllByRecursion (Section-runs mode) reading.sections
   pub counted : Ends c ls reading.end.fields
 
-abbrev pub Shape : ℕ → Place → End → OpenSection → OpenItem → List Role → Type 0
-Shape cap place.Fresh c x i ls = Whole cap c ls
-Shape cap place.Begun c x i ls = (f : Files cap c ls) × (0 < length f.sections)
-Shape cap place.Opened c x i ls = Items cap c x ls
-Shape cap (place.Within st) c x i ls = Parts cap c x st i ls
-Shape cap place.Between c x i ls = Files cap c ls
-Shape cap place.Done c x i ls = ls ≡ []
+abbrev pub Shape : Mode → Place → End → OpenSection → OpenItem → List Role → Type 0
+Shape mode place.Fresh c x i ls = Whole mode c ls
+Shape mode place.Begun c x i ls = (f : Files mode c ls) × (0 < length f.sections)
+Shape mode place.Opened c x i ls = Items mode c x ls
+Shape mode (place.Within st) c x i ls = Parts mode c x st i ls
+Shape mode place.Between c x i ls = Files mode c ls
+Shape mode place.Done c x i ls = ls ≡ []
 
 abbrev at : Place → End → OpenSection → OpenItem → State
 at p c x i = record { place = p; counts = c; section = x; item = i }
 
 -- From a run to a reading: one record in front of what is still to come.
-module _ (cap : ℕ) (c : End) (ls : List Role) where
-  open_section : (o : Read Opening) → Items cap (counts_behind c (opening o)) (opened o.fields.currency) ls → (f : Files cap c (opening o ∷ ls)) × (0 < length f.sections)
+module _ (mode : Mode) (c : End) (ls : List Role) where
+  open_section : (o : Read Opening) → Items mode (counts_behind c (opening o)) (opened o.fields.currency) ls → (f : Files mode c (opening o ∷ ls)) × (0 < length f.sections)
   open_section o n = (
     record {
       sections = record { opening = o; items = n.items; deposit = n.paid_in } ∷ n.sections;
@@ -155,8 +154,8 @@ module _ (cap : ℕ) (c : End) (ls : List Role) where
     omega arith,
   )
 
-  open_item : (x : OpenSection) (b : Bool) (t : Read Transfer) → room (judging cap) x.rows t.fields.payer (adds b t) (takes b t) ≡ true
-      → Parts cap (counts_behind c (head b t)) (with_head (judging cap) x b t) stage.Head (headed t.fields) ls → Items cap c x (head b t ∷ ls)
+  open_item : (x : OpenSection) (b : Bool) (t : Read Transfer) → room mode x.rows t.fields.payer (adds b t) (takes b t) ≡ true
+      → Parts mode (counts_behind c (head b t)) (with_head mode x b t) stage.Head (headed t.fields) ls → Items mode c x (head b t ∷ ls)
   open_item x b t fit n =
       let same : n.parts ≡ written (item_of b t n.parts) = sym (written-item b t n.parts n.body) in
       let rest : List Role = items_roles n.items (deposit n.paid_in ∷ sections_roles n.sections (end n.close ∷ [])) in
@@ -172,7 +171,7 @@ module _ (cap : ℕ) (c : End) (ls : List Role) where
       }
 
   -- an item is over
-  item-over : (x : OpenSection) (st : Stage) (i : OpenItem) (l : Role) → Closed st → Items cap c x (l ∷ ls) → Parts cap c x st i (l ∷ ls)
+  item-over : (x : OpenSection) (st : Stage) (i : OpenItem) (l : Role) → Closed st → Items mode c x (l ∷ ls) → Parts mode c x st i (l ∷ ls)
   item-over x st i l closed n = record {
     parts = [];
     items = n.items;
@@ -186,7 +185,7 @@ module _ (cap : ℕ) (c : End) (ls : List Role) where
     counted = n.counted;
   }
 
-  over-deposit : (x : OpenSection) (d : Read Deposit) → Heads-run cap x [] d → Files cap (counts_behind c (deposit d)) ls → Items cap c x (deposit d ∷ ls)
+  over-deposit : (x : OpenSection) (d : Read Deposit) → Heads-run mode x [] d → Files mode (counts_behind c (deposit d)) ls → Items mode c x (deposit d ∷ ls)
   over-deposit x d h n = record {
     items = [];
     paid_in = d;
@@ -198,8 +197,8 @@ module _ (cap : ℕ) (c : End) (ls : List Role) where
     counted = ends_back c (deposit d) ls n.close.fields n.counted;
   }
 
-  within : (x : OpenSection) (st : Stage) (i : OpenItem) (l : Role) → Passes (role_tests (judging cap) (at (place.Within st) c x i) l)
-      → Shape cap (place_behind l) (counts_behind c l) (section_behind (judging cap) x l) (item_behind i l) ls → Parts cap c x st i (l ∷ ls)
+  within : (x : OpenSection) (st : Stage) (i : OpenItem) (l : Role) → Passes (role_tests mode (at (place.Within st) c x i) l)
+      → Shape mode (place_behind l) (counts_behind c l) (section_behind mode x l) (item_behind i l) ls → Parts mode c x st i (l ∷ ls)
   within x st i (start y) t n = absurd (false≢true (sym (none_within st).0 ∙ t.0))
   within x st i (opening y) t n = absurd (false≢true (sym (none_within st).1 ∙ t.0))
   within x st i (head b y) t n = item-over x st i (head b y) (closed_head st t.0) (open_item x b y t.1.0 n)
@@ -220,8 +219,8 @@ module _ (cap : ℕ) (c : End) (ls : List Role) where
       item-over x st i (deposit d) (closed-deposit st a.0) (over-deposit x d (a.1, t.1.0, t.1.1.0) n)
   within x st i (end y) t n = absurd (false≢true (sym (none_within st).2 ∙ t.0))
 
-  sound_at : (p : Place) (x : OpenSection) (i : OpenItem) (l : Role) → Passes (role_tests (judging cap) (at p c x i) l)
-      → Shape cap (place_behind l) (counts_behind c l) (section_behind (judging cap) x l) (item_behind i l) ls → Shape cap p c x i (l ∷ ls)
+  sound_at : (p : Place) (x : OpenSection) (i : OpenItem) (l : Role) → Passes (role_tests mode (at p c x i) l)
+      → Shape mode (place_behind l) (counts_behind c l) (section_behind mode x l) (item_behind i l) ls → Shape mode p c x i (l ∷ ls)
   sound_at place.Fresh x i (start y) t n = record {
     reading = record { start = y; sections = n.0.sections; end = n.0.close };
     lies = ap (λ l. start y ∷ l) n.0.lies;
@@ -266,59 +265,59 @@ module _ (cap : ℕ) (c : End) (ls : List Role) where
   sound_at place.Done x i (deposit y) t n = absurd (false≢true t.0)
   sound_at place.Done x i (end y) t n = absurd (false≢true t.0)
 
-sound-end : (cap : ℕ) (p : Place) (c : End) (x : OpenSection) (i : OpenItem) → ended p ≡ true → Shape cap p c x i []
-sound-end cap place.Fresh c x i e = absurd (false≢true e)
-sound-end cap place.Begun c x i e = absurd (false≢true e)
-sound-end cap place.Opened c x i e = absurd (false≢true e)
-sound-end cap (place.Within st) c x i e = absurd (false≢true e)
-sound-end cap place.Between c x i e = absurd (false≢true e)
-sound-end cap place.Done c x i e = refl
+sound-end : (mode : Mode) (p : Place) (c : End) (x : OpenSection) (i : OpenItem) → ended p ≡ true → Shape mode p c x i []
+sound-end mode place.Fresh c x i e = absurd (false≢true e)
+sound-end mode place.Begun c x i e = absurd (false≢true e)
+sound-end mode place.Opened c x i e = absurd (false≢true e)
+sound-end mode (place.Within st) c x i e = absurd (false≢true e)
+sound-end mode place.Between c x i e = absurd (false≢true e)
+sound-end mode place.Done c x i e = refl
 
-pub sound : (cap : ℕ) (ls : List Role) (s : State) → Run (judging cap) s ls → Shape cap s.place s.counts s.section s.item ls
-sound cap [] s r = sound-end cap s.place s.counts s.section s.item r
-sound cap (l ∷ ls) s r = sound_at cap s.counts ls s.place s.section s.item l r.0 (sound cap ls (behind (judging cap) s l) r.1)
+pub sound : (mode : Mode) (ls : List Role) (s : State) → Run mode s ls → Shape mode s.place s.counts s.section s.item ls
+sound mode [] s r = sound-end mode s.place s.counts s.section s.item r
+sound mode (l ∷ ls) s r = sound_at mode s.counts ls s.place s.section s.item l r.0 (sound mode ls (behind mode s l) r.1)
 
 -- From a reading to a run: the machine passes over what is written, if it passes on from where that leads.
-module _ (cap : ℕ) (e : Read End) where
+module _ (mode : Mode) (e : Read End) where
   over_parts : (ps : List Part) (c : End) (x : OpenSection) (st : Stage) (i : OpenItem) (rest : List Role) → Parts-run st i ps → Ends c (parts_then ps rest) e.fields
-      → ((d : End) (su : Stage) (j : OpenItem) → Closed su → Ends d rest e.fields → Run (judging cap) (at (place.Within su) d x j) rest)
-      → Run (judging cap) (at (place.Within st) c x i) (parts_then ps rest)
+      → ((d : End) (su : Stage) (j : OpenItem) → Closed su → Ends d rest e.fields → Run mode (at (place.Within su) d x j) rest)
+      → Run mode (at (place.Within st) c x i) (parts_then ps rest)
   over_parts [] c x st i rest r n go = go c st i r n
   over_parts (p ∷ ps) c x st i rest r n go =
       ((r.0, r.1), over_parts ps (counts_behind c (part p)) x (stage_after p) (item-part i p) rest r.2 (ends_on c (part p) (parts_then ps rest) e.fields n) go)
 
-  module _ (d : Read Deposit) (rest : List Role) (go : (c : End) (x : OpenSection) (i : OpenItem) → Ends c rest e.fields → Run (judging cap) (at place.Between c x i) rest) where
+  module _ (d : Read Deposit) (rest : List Role) (go : (c : End) (x : OpenSection) (i : OpenItem) → Ends c rest e.fields → Run mode (at place.Between c x i) rest) where
     -- behind the head of an item
     over-item : (i : Item) (k : List Role) (c : End) (x : OpenSection) → Parts-run stage.Head (headed i.transfer.fields) (written i)
         → Ends c (head i.payment i.transfer ∷ parts_then (written i) k) e.fields
-        → ((f : End) (su : Stage) (j : OpenItem) → Closed su → Ends f k e.fields → Run (judging cap) (at (place.Within su) f (after-item cap x i) j) k)
-        → Run (judging cap) (at (place.Within stage.Head) (counts_behind c (head i.payment i.transfer)) (after-item cap x i) (headed i.transfer.fields)) (parts_then (written i) k)
+        → ((f : End) (su : Stage) (j : OpenItem) → Closed su → Ends f k e.fields → Run mode (at (place.Within su) f (after-item mode x i) j) k)
+        → Run mode (at (place.Within stage.Head) (counts_behind c (head i.payment i.transfer)) (after-item mode x i) (headed i.transfer.fields)) (parts_then (written i) k)
     over-item i k c x r n on =
         let l : Role = head i.payment i.transfer in
-        over_parts (written i) (counts_behind c l) (after-item cap x i) stage.Head (headed i.transfer.fields) k r (ends_on c l (parts_then (written i) k) e.fields n) on
+        over_parts (written i) (counts_behind c l) (after-item mode x i) stage.Head (headed i.transfer.fields) k r (ends_on c l (parts_then (written i) k) e.fields n) on
 
-    over-items : (is : List Item) (c : End) (x : OpenSection) (st : Stage) (i : OpenItem) → Closed st → Heads-run cap x is d → Ends c (items_roles is (deposit d ∷ rest)) e.fields → Run (judging cap) (at (place.Within st) c x i) (items_roles is (deposit d ∷ rest))
+    over-items : (is : List Item) (c : End) (x : OpenSection) (st : Stage) (i : OpenItem) → Closed st → Heads-run mode x is d → Ends c (items_roles is (deposit d ∷ rest)) e.fields → Run mode (at (place.Within st) c x i) (items_roles is (deposit d ∷ rest))
     over-items [] c x st i closed r n =
         ((and_from _ _ (head_closed st closed).1 r.0, (r.1, (r.2, tt))), go (counts_behind c (deposit d)) x i (ends_on c (deposit d) rest e.fields n))
     over-items (j ∷ js) c x st i closed r n =
-        (((head_closed st closed).0, (r.0, tt)), over-item j (items_roles js (deposit d ∷ rest)) c x r.1 n (λ f su g t m. over-items js f (after-item cap x j) su g t r.2 m))
+        (((head_closed st closed).0, (r.0, tt)), over-item j (items_roles js (deposit d ∷ rest)) c x r.1 n (λ f su g t m. over-items js f (after-item mode x j) su g t r.2 m))
 
-    over_first : (is : List Item) (c : End) (x : OpenSection) (i : OpenItem) → x.payments ≡ 0 → Heads-run cap x is d → Ends c (items_roles is (deposit d ∷ rest)) e.fields → Run (judging cap) (at place.Opened c x i) (items_roles is (deposit d ∷ rest))
+    over_first : (is : List Item) (c : End) (x : OpenSection) (i : OpenItem) → x.payments ≡ 0 → Heads-run mode x is d → Ends c (items_roles is (deposit d ∷ rest)) e.fields → Run mode (at place.Opened c x i) (items_roles is (deposit d ∷ rest))
     over_first [] c x i none r n = absurd (false≢true (subst (λ k. ltb 0 k ≡ true) none r.0))
     over_first (j ∷ js) c x i none r n =
-        ((refl, (r.0, tt)), over-item j (items_roles js (deposit d ∷ rest)) c x r.1 n (λ f su g t m. over-items js f (after-item cap x j) su g t r.2 m))
+        ((refl, (r.0, tt)), over-item j (items_roles js (deposit d ∷ rest)) c x r.1 n (λ f su g t m. over-items js f (after-item mode x j) su g t r.2 m))
 
-  over-sections : (ss : List Section) (c : End) (x : OpenSection) (i : OpenItem) → AllByRecursion (Section-runs cap) ss → Ends c (sections_roles ss (end e ∷ [])) e.fields → Run (judging cap) (at place.Between c x i) (sections_roles ss (end e ∷ []))
+  over-sections : (ss : List Section) (c : End) (x : OpenSection) (i : OpenItem) → AllByRecursion (Section-runs mode) ss → Ends c (sections_roles ss (end e ∷ [])) e.fields → Run mode (at place.Between c x i) (sections_roles ss (end e ∷ []))
   over-sections [] c x i r n = ((refl, (now_ends c e.fields e n, tt)), refl)
   over-sections (s ∷ ss) c x i r n =
       let k : List Role = sections_roles ss (end e ∷ []) in
       let l : Role = opening s.opening in
       ((refl, tt), over_first s.deposit k (λ f y g m. over-sections ss f y g r.1 m) s.items (counts_behind c l) (opened s.opening.fields.currency) i refl r.0 (ends_on c l (items_roles s.items (deposit s.deposit ∷ k)) e.fields n))
 
-  over-begun : (ss : List Section) (c : End) (x : OpenSection) (i : OpenItem) → 0 < length ss → AllByRecursion (Section-runs cap) ss → Ends c (sections_roles ss (end e ∷ [])) e.fields → Run (judging cap) (at place.Begun c x i) (sections_roles ss (end e ∷ []))
+  over-begun : (ss : List Section) (c : End) (x : OpenSection) (i : OpenItem) → 0 < length ss → AllByRecursion (Section-runs mode) ss → Ends c (sections_roles ss (end e ∷ [])) e.fields → Run mode (at place.Begun c x i) (sections_roles ss (end e ∷ []))
   over-begun [] c x i some r n = absurd (omega arith)
   over-begun (s ∷ ss) c x i some r n = ((refl, tt), (over-sections (s ∷ ss) c x i r n).1)
 
-pub complete : (cap : ℕ) (r : Reading) (c : End) (x : OpenSection) (i : OpenItem) → 0 < length r.sections → AllByRecursion (Section-runs cap) r.sections → Ends c (roles r) r.end.fields → Run (judging cap) (at place.Fresh c x i) (roles r)
-complete cap r c x i some runs n =
-    ((refl, tt), over-begun cap r.end r.sections (counts_behind c (start r.start)) x i some runs (ends_on c (start r.start) (sections_roles r.sections (end r.end ∷ [])) r.end.fields n))
+pub complete : (mode : Mode) (r : Tree) (c : End) (x : OpenSection) (i : OpenItem) → 0 < length r.sections → AllByRecursion (Section-runs mode) r.sections → Ends c (roles r) r.end.fields → Run mode (at place.Fresh c x i) (roles r)
+complete mode r c x i some runs n =
+    ((refl, tt), over-begun mode r.end r.sections (counts_behind c (start r.start)) x i some runs (ends_on c (start r.start) (sections_roles r.sections (end r.end ∷ [])) r.end.fields n))

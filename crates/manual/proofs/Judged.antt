@@ -13,7 +13,8 @@ use Rattle.record.specs.declared.classes.Class.{Class}
 use Rattle.record.specs.declared.classes.Class.TheVariants as class
 use Rattle.record.specs.Layouts.{read_core}
 use Rattle.record.specs.Rows.{kind_in}
-use Rattle.record.specs.Classes.{code_in, class_of}
+use Rattle.record.specs.Codes.{code_in}
+use Rattle.record.specs.Classes.{class_of}
 use Rattle.record.specs.Editions.{Meaning}
 use Rattle.record.specs.Laws.{kind_at}
 use Rattle.manual.specs.declared.faults.Cause.{Cause}
@@ -23,7 +24,6 @@ use Rattle.manual.specs.declared.places.Place.{Place}
 use Rattle.manual.specs.declared.places.Place.TheVariants as place
 use Rattle.manual.specs.Slots.{Slot, whole, broken}
 use Rattle.manual.specs.Judging.{Mode, State, begun, is_file, is_section, is_item, sits, moved, core_tests, tests, step, ended, at_record, then_on, judge}
-use Rattle.manual.specs.Laws.{judging}
 use Rattle.manual.specs.Manual.{level_after}
 use Rattle.manual.proofs.Roles.{Role, start, opening, head, part, deposit, end, role_of, place_behind, role_tests, behind, Run}
 use Rattle.manual.proofs.Steps.{Passes, passing, passed}
@@ -83,7 +83,7 @@ the_item level.Section h = absurd (false≢true h)
 the_item level.Item h = refl
 
 -- a rider sits exactly at the level of its place
-seated : (p : Place) (v : Level) → sits p v ≡ true → level_at p ≡ Some v
+pub seated : (p : Place) (v : Level) → sits p v ≡ true → level_at p ≡ Some v
 seated place.Fresh v h = absurd (false≢true h)
 seated place.Begun v h = ap Some (the_file v h)
 seated place.Opened v h = ap Some (the_section v h)
@@ -91,7 +91,7 @@ seated (place.Within st) v h = ap Some (the_item v h)
 seated place.Between v h = ap Some (the_file v h)
 seated place.Done v h = absurd (false≢true h)
 
-seats : (p : Place) (v : Level) → level_at p ≡ Some v → sits p v ≡ true
+pub seats : (p : Place) (v : Level) → level_at p ≡ Some v → sits p v ≡ true
 seats place.Fresh v h = let z : ◌≡◌ {A = ℕ} 0 1 = cc in absurd (omega arith)
 seats place.Begun v h = let q : level.File ≡ v = cc in subst (λ u. is_file u ≡ true) q refl
 seats place.Opened v h = let q : level.Section ≡ v = cc in subst (λ u. is_section u ≡ true) q refl
@@ -109,13 +109,13 @@ ready_begun s [] h = tt
 ready_begun s (r ∷ rs) h = λ e. h
 
 -- From an accepted list of slots, of which n stand before.
-pub record Accepted (cap : ℕ) (m : Meaning) (n : ℕ) (s : State) (ss : List Slot) (e : End) : Type 0 where
+pub record Accepted (mode : Mode) (m : Meaning) (n : ℕ) (s : State) (ss : List Slot) (e : End) : Type 0 where
   pub records : List (List ℕ)
   pub roles : List Role
   pub whole : ss ≡ map whole records
   pub few : n + length records ≤ 50000
   pub goes : Along m (level_at s.place) records roles
-  pub runs : Run (judging cap) s roles
+  pub runs : Run mode s roles
   pub counted : Ends s.counts roles e
   pub ready : Ready s records
 
@@ -130,11 +130,11 @@ step_ok true (Ok t) n go e q = (refl, (t, refl, q))
 step_ok true (Err c) n go e q = let z : ◌≡◌ {A = ℕ} 0 1 = cc in absurd (omega arith)
 step_ok false o n go e q = let z : ◌≡◌ {A = ℕ} 0 1 = cc in absurd (omega arith)
 
-module _ (cap : ℕ) (m : Meaning) (r : List ℕ) (ss : List Slot) (n : ℕ) (s : State) (e : End) (few : n ≤ 50000) (bound : Bounded n s)
-    (ih : (t : State) → Bounded (suc n) t → judge (judging cap) m (suc (suc n)) t ss ≡ Ok e → Accepted cap m (suc n) t ss e) where
+module _ (mode : Mode) (m : Meaning) (r : List ℕ) (ss : List Slot) (n : ℕ) (s : State) (e : End) (few : n ≤ 50000) (bound : Bounded n s)
+    (ih : (t : State) → Bounded (suc n) t → judge mode m (suc (suc n)) t ss ≡ Ok e → Accepted mode m (suc n) t ss e) where
   -- a record that leaves the state as it was
   kept : ((rs : List (List ℕ)) (ls : List Role) → Along m (level_at s.place) rs ls → Along m (level_at s.place) (r ∷ rs) ls) → begun s.place ≡ true
-      → judge (judging cap) m (suc (suc n)) s ss ≡ Ok e → Accepted cap m n s (whole r ∷ ss) e
+      → judge mode m (suc (suc n)) s ss ≡ Ok e → Accepted mode m n s (whole r ∷ ss) e
   kept next ready q =
       let a = ih s (bounded_kept n s bound) q in
       record {
@@ -149,9 +149,8 @@ module _ (cap : ℕ) (m : Meaning) (r : List ℕ) (ss : List Slot) (n : ℕ) (s 
       }
 
   over-core : (c : ℕ) (k : Kind) (f : Core) → code_in r ≡ Some c → kind_at r ≡ Some k → m.level c ≡ None → read_core k (between 2 (length r) r) ≡ Ok f → class_of m r ≡ class.Core k (Ok f)
-      → (t : State) → step (judging cap) s (class.Core k (Ok f)) ≡ Ok t → judge (judging cap) m (suc (suc n)) t ss ≡ Ok e → Accepted cap m n s (whole r ∷ ss) e
+      → (t : State) → step mode s (class.Core k (Ok f)) ≡ Ok t → judge mode m (suc (suc n)) t ss ≡ Ok e → Accepted mode m n s (whole r ∷ ss) e
   over-core c k f code kind beyond read is t h q =
-      let mode : Mode = judging cap in
       let l : Role = role_of f (named k r) in
       let same : kind_in f ≡ k = read_kind k (between 2 (length r) r) f read in
       let modest : Modest l = read_modest k (between 2 (length r) r) f (named k r) read in
@@ -171,22 +170,22 @@ module _ (cap : ℕ) (m : Meaning) (r : List ℕ) (ss : List Slot) (n : ℕ) (s 
       }
 
   over-read : (c : ℕ) (k : Kind) (read : Result Core Field) → code_in r ≡ Some c → kind_at r ≡ Some k → m.level c ≡ None → read_core k (between 2 (length r) r) ≡ read → class_of m r ≡ class.Core k read
-      → (t : State) → step (judging cap) s (class.Core k read) ≡ Ok t → judge (judging cap) m (suc (suc n)) t ss ≡ Ok e → Accepted cap m n s (whole r ∷ ss) e
+      → (t : State) → step mode s (class.Core k read) ≡ Ok t → judge mode m (suc (suc n)) t ss ≡ Ok e → Accepted mode m n s (whole r ∷ ss) e
   over-read c k (Ok f) code kind beyond read is t h q = over-core c k f code kind beyond read is t h q
-  over-read c k (Err f) code kind beyond read is t h q = absurd (false≢true (passed (core_tests (judging cap) s k (Err f)) s t h).0.1.0)
+  over-read c k (Err f) code kind beyond read is t h q = absurd (false≢true (passed (core_tests mode s k (Err f)) s t h).0.1.0)
 
-  over : (x : Class) → class_of m r ≡ x → Seen m r x → (t : State) → step (judging cap) s x ≡ Ok t → judge (judging cap) m (suc (suc n)) t ss ≡ Ok e → Accepted cap m n s (whole r ∷ ss) e
-  over _ is (classes.bad code) t h q = absurd (false≢true (passed (tests (judging cap) s class.BadCode) s t h).0.0)
+  over : (x : Class) → class_of m r ≡ x → Seen m r x → (t : State) → step mode s x ≡ Ok t → judge mode m (suc (suc n)) t ss ≡ Ok e → Accepted mode m n s (whole r ∷ ss) e
+  over _ is (classes.bad code) t h q = absurd (false≢true (passed (tests mode s class.BadCode) s t h).0.0)
   over _ is (classes.core c k code kind beyond) t h q = over-read c k (read_core k (between 2 (length r) r)) code kind beyond refl is t h q
   over _ is (classes.rider c v code kind knows) t h q =
-      let p = passed (tests (judging cap) s (class.Rider (record { code = c; level = v; formed = m.formed c r }))) s t h in
-      kept (λ rs ls a. rider_next (level_at s.place) c v r rs ls code kind knows (seated s.place v p.0.1.0) p.0.1.1.0 is a) p.0.0 (subst (λ u. judge (judging cap) m (suc (suc n)) u ss ≡ Ok e) (sym p.1) q)
+      let p = passed (tests mode s (class.Rider (record { code = c; level = v; formed = m.formed c r }))) s t h in
+      kept (λ rs ls a. rider_next (level_at s.place) c v r rs ls code kind knows (seated s.place v p.0.1.0) p.0.1.1.0 is a) p.0.0 (subst (λ u. judge mode m (suc (suc n)) u ss ≡ Ok e) (sym p.1) q)
   over _ is (classes.unknown c code kind beyond) t h q =
-      let p = passed (tests (judging cap) s class.Unknown) s t h in
-      kept (λ rs ls a. unknown_next (level_at s.place) c r rs ls code kind beyond is a) p.0.0 (subst (λ u. judge (judging cap) m (suc (suc n)) u ss ≡ Ok e) (sym p.1) q)
+      let p = passed (tests mode s class.Unknown) s t h in
+      kept (λ rs ls a. unknown_next (level_at s.place) c r rs ls code kind beyond is a) p.0.0 (subst (λ u. judge mode m (suc (suc n)) u ss ≡ Ok e) (sym p.1) q)
 
-pub judge_ok : (cap : ℕ) (m : Meaning) (ss : List Slot) (n : ℕ) (s : State) (e : End) → n ≤ 50000 → Bounded n s → judge (judging cap) m (suc n) s ss ≡ Ok e → Accepted cap m n s ss e
-judge_ok cap m [] n s e few bound q =
+pub judge_ok : (mode : Mode) (m : Meaning) (ss : List Slot) (n : ℕ) (s : State) (e : End) → n ≤ 50000 → Bounded n s → judge mode m (suc n) s ss ≡ Ok e → Accepted mode m n s ss e
+judge_ok mode m [] n s e few bound q =
     let a = ended_ok (ended s.place) (suc n) s.counts e q in
     record {
       records = [];
@@ -198,26 +197,26 @@ judge_ok cap m [] n s e few bound q =
       counted = subst (λ (c : End). Ends s.counts [] c) a.1 (omega arith, omega arith, omega arith, omega arith);
       ready = tt;
     }
-judge_ok cap m (broken ∷ ss) n s e few bound q =
-    let a = step_ok (leb (suc n) 50000) (Err cause.Broken) (suc n) (λ t. judge (judging cap) m (suc (suc n)) t ss) e q in
+judge_ok mode m (broken ∷ ss) n s e few bound q =
+    let a = step_ok (leb (suc n) 50000) (Err cause.Broken) (suc n) (λ t. judge mode m (suc (suc n)) t ss) e q in
     let f = a.1.1 in let z : ◌≡◌ {A = ℕ} 0 1 = cc in absurd (omega arith)
-judge_ok cap m (whole r ∷ ss) n s e few bound q =
-    let a = step_ok (leb (suc n) 50000) (step (judging cap) s (class_of m r)) (suc n) (λ t. judge (judging cap) m (suc (suc n)) t ss) e q in
+judge_ok mode m (whole r ∷ ss) n s e few bound q =
+    let a = step_ok (leb (suc n) 50000) (step mode s (class_of m r)) (suc n) (λ t. judge mode m (suc (suc n)) t ss) e q in
     let more : suc n ≤ 50000 = leb-true _ _ a.0 in
-    over cap m r ss n s e few bound (λ t b h. judge_ok cap m ss (suc n) t e more b h) (class_of m r) refl (seen m r) a.1.0 a.1.1 a.1.2
+    over mode m r ss n s e few bound (λ t b h. judge_ok mode m ss (suc n) t e more b h) (class_of m r) refl (seen m r) a.1.0 a.1.1 a.1.2
 
 -- And back.
 
-module _ (cap : ℕ) (m : Meaning) (e : End) where
+module _ (mode : Mode) (m : Meaning) (e : End) where
   -- one record further, where its step passes
-  on_judge : (n : ℕ) (s t : State) (r : List ℕ) (x : Class) (rs : List (List ℕ)) → suc n ≤ 50000 → class_of m r ≡ x → step (judging cap) s x ≡ Ok t
-      → judge (judging cap) m (suc n) s (map whole (r ∷ rs)) ≡ judge (judging cap) m (suc (suc n)) t (map whole rs)
+  on_judge : (n : ℕ) (s t : State) (r : List ℕ) (x : Class) (rs : List (List ℕ)) → suc n ≤ 50000 → class_of m r ≡ x → step mode s x ≡ Ok t
+      → judge mode m (suc n) s (map whole (r ∷ rs)) ≡ judge mode m (suc (suc n)) t (map whole rs)
   on_judge n s t r x rs few is h =
-      let go : State → Result End FileFault = λ t. judge (judging cap) m (suc (suc n)) t (map whole rs) in
-      cond-true _ _ _ (le-leb (suc n) 50000 few) ∙ ap (λ y. then_on (step (judging cap) s y) (suc n) go) is ∙ ap (λ o. then_on o (suc n) go) h
+      let go : State → Result End FileFault = λ t. judge mode m (suc (suc n)) t (map whole rs) in
+      cond-true _ _ _ (le-leb (suc n) 50000 few) ∙ ap (λ y. then_on (step mode s y) (suc n) go) is ∙ ap (λ o. then_on o (suc n) go) h
 
   pub ok_judge : (o : Option Level) (rs : List (List ℕ)) (ls : List Role) → Along m o rs ls → (n : ℕ) (s : State) → level_at s.place ≡ o → Ready s rs
-      → n + length rs ≤ 50000 → Bounded n s → Run (judging cap) s ls → Ends s.counts ls e → judge (judging cap) m (suc n) s (map whole rs) ≡ Ok e
+      → n + length rs ≤ 50000 → Bounded n s → Run mode s ls → Ends s.counts ls e → judge mode m (suc n) s (map whole rs) ≡ Ok e
   ok_judge _ _ _ (none o) n s lv ready few bound run ends =
       let p : s.counts.payments ≡ e.payments = omega (arith, ends.0) in
       let q : s.counts.deductions ≡ e.deductions = omega (arith, ends.1) in
@@ -225,7 +224,6 @@ module _ (cap : ℕ) (m : Meaning) (e : End) where
       let t : s.counts.deposits ≡ e.deposits = omega (arith, ends.3) in
       cond-true (ended s.place) _ _ run ∙ (λ i. Ok (record { payments = p i; deductions = q i; extras = r i; deposits = t i }))
   ok_judge _ _ _ (core_next o c k f r rs ls code kind beyond read is a) n s lv ready few bound run ends =
-      let mode : Mode = judging cap in
       let l : Role = role_of f (named k r) in
       let same : kind_in f ≡ k = read_kind k (between 2 (length r) r) f read in
       let modest : Modest l = read_modest k (between 2 (length r) r) f (named k r) read in
@@ -236,8 +234,8 @@ module _ (cap : ℕ) (m : Meaning) (e : End) where
       ∙ ok_judge _ rs ls a (suc n) (behind mode s l) (level_behind f (named k r) ∙ ap level_after same) (ready_begun (behind mode s l) rs (begun_behind l)) (omega arith) (bounded_on mode n s l bound modest) run.1 (ends_on s.counts l ls e ends)
   ok_judge _ _ _ (rider_next o c v r rs ls code kind knows at formed is a) n s lv ready few bound run ends =
       let x : Class = class.Rider (record { code = c; level = v; formed = m.formed c r }) in
-      on_judge n s s r x rs (omega arith) is (passing (tests (judging cap) s x) s (ready kind, (seats s.place v (lv ∙ at), (formed, tt))))
+      on_judge n s s r x rs (omega arith) is (passing (tests mode s x) s (ready kind, (seats s.place v (lv ∙ at), (formed, tt))))
       ∙ ok_judge _ rs ls a (suc n) s lv (ready_begun s rs (ready kind)) (omega arith) (bounded_kept n s bound) run ends
   ok_judge _ _ _ (unknown_next o c r rs ls code kind beyond is a) n s lv ready few bound run ends =
-      on_judge n s s r class.Unknown rs (omega arith) is (passing (tests (judging cap) s class.Unknown) s (ready kind, tt))
+      on_judge n s s r class.Unknown rs (omega arith) is (passing (tests mode s class.Unknown) s (ready kind, tt))
       ∙ ok_judge _ rs ls a (suc n) s lv (ready_begun s rs (ready kind)) (omega arith) (bounded_kept n s bound) run ends

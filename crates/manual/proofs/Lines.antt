@@ -49,11 +49,11 @@ slots-one (b ∷ r) e rest w =
     ∙ (λ i. whole (take_at (b ∷ r) (end_bytes e ++ rest) 80 w.0 i) ∷ slots (drop-one (b ∷ r) e rest w i))
 
 -- the records of lines, in front of other slots
-abbrev in_front : List Line → List Slot → List Slot
+abbrev pub in_front : List Line → List Slot → List Slot
 in_front [] ss = ss
 in_front (l ∷ ls) ss = whole l.bytes ∷ in_front ls ss
 
-slots-laid : (ls : List Line) (rest : List ℕ) → slots (laid ls rest) ≡ in_front ls (slots rest)
+pub slots-laid : (ls : List Line) (rest : List ℕ) → slots (laid ls rest) ≡ in_front ls (slots rest)
 slots-laid [] rest = refl
 slots-laid (l ∷ ls) rest = slots-one l.bytes l.ending (laid ls rest) l.is_whole ∙ ap (λ t. whole l.bytes ∷ t) (slots-laid ls rest)
 

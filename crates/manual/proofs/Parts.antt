@@ -11,7 +11,7 @@ use Rattle.manual.specs.declared.places.Place.TheVariants as place
 use Rattle.manual.specs.Judging.{Item as OpenItem, may_follow, headed}
 use Rattle.manual.specs.Manual.{Read, Extra, Item, Agrees, ItemStands}
 use Rattle.manual.proofs.Roles.{Part, extra, info, name, address1, address2, company, item-part}
-use Rattle.manual.proofs.Trees.{extra_of, company_parts, address_parts, name_parts, written, Closed, Parts-run}
+use Rattle.manual.proofs.Trees.{extra_of, company_parts, address_parts, name_parts, written, Closed, Parts-run, Ordered, run_ordered}
 
 -- READING. An item is read off its parts, the last part first.
 
@@ -101,60 +101,63 @@ module _ (b : Bool) (t : Read Transfer) where
   parts r = written (item_with b t r)
 
   -- where the machine passes over the parts of a rest, that is all it has
-  all_left : (st : Stage) (o : OpenItem) (xs : List Extra) (ts : List (List ℕ)) (n : Option (List ℕ)) (a : Option (List ℕ × List ℕ)) (c : Option (Read ℕ))
-      → Parts-run st o (parts (rest xs ts n a c)) → rest xs ts n a c ≡ left st (rest xs ts n a c)
-  all_left stage.Head o xs ts n a c h = refl
-  all_left stage.Information o [] ts n a c h = refl
-  all_left stage.Information o (x ∷ xs) ts n a c h = cc
-  all_left stage.Name o [] [] None a c h = refl
-  all_left stage.Name o [] [] (Some u) a c h = cc
-  all_left stage.Name o [] (u ∷ ts) n a c h = cc
-  all_left stage.Name o (x ∷ xs) ts n a c h = cc
-  all_left stage.HalfAddress o xs ts n a c h = refl
-  all_left stage.Address o [] [] None None c h = refl
-  all_left stage.Address o [] [] None (Some both) c h = cc
-  all_left stage.Address o [] [] (Some u) a c h = cc
-  all_left stage.Address o [] (u ∷ ts) n a c h = cc
-  all_left stage.Address o (x ∷ xs) ts n a c h = cc
-  all_left stage.CompanyNumber o [] [] None None None h = refl
-  all_left stage.CompanyNumber o [] [] None None (Some m) h = cc
-  all_left stage.CompanyNumber o [] [] None (Some both) c h = cc
-  all_left stage.CompanyNumber o [] [] (Some u) a c h = cc
-  all_left stage.CompanyNumber o [] (u ∷ ts) n a c h = cc
-  all_left stage.CompanyNumber o (x ∷ xs) ts n a c h = cc
+  all_left : (st : Stage) (xs : List Extra) (ts : List (List ℕ)) (n : Option (List ℕ)) (a : Option (List ℕ × List ℕ)) (c : Option (Read ℕ))
+      → Ordered st (parts (rest xs ts n a c)) → rest xs ts n a c ≡ left st (rest xs ts n a c)
+  all_left stage.Head xs ts n a c h = refl
+  all_left stage.Information [] ts n a c h = refl
+  all_left stage.Information (x ∷ xs) ts n a c h = cc
+  all_left stage.Name [] [] None a c h = refl
+  all_left stage.Name [] [] (Some u) a c h = cc
+  all_left stage.Name [] (u ∷ ts) n a c h = cc
+  all_left stage.Name (x ∷ xs) ts n a c h = cc
+  all_left stage.HalfAddress xs ts n a c h = refl
+  all_left stage.Address [] [] None None c h = refl
+  all_left stage.Address [] [] None (Some both) c h = cc
+  all_left stage.Address [] [] (Some u) a c h = cc
+  all_left stage.Address [] (u ∷ ts) n a c h = cc
+  all_left stage.Address (x ∷ xs) ts n a c h = cc
+  all_left stage.CompanyNumber [] [] None None None h = refl
+  all_left stage.CompanyNumber [] [] None None (Some m) h = cc
+  all_left stage.CompanyNumber [] [] None (Some both) c h = cc
+  all_left stage.CompanyNumber [] [] (Some u) a c h = cc
+  all_left stage.CompanyNumber [] (u ∷ ts) n a c h = cc
+  all_left stage.CompanyNumber (x ∷ xs) ts n a c h = cc
 
   -- so parts that are put into it then stand first in what it writes
-  first : (st : Stage) (o : OpenItem) (into : Rest → Rest) (onto : List Part → List Part) → ((r : Rest) → parts (into (left st r)) ≡ onto (parts (left st r)))
-      → (ps : List Part) → parts (read ps) ≡ ps → Parts-run st o ps → parts (into (read ps)) ≡ onto ps
-  first st o into onto same ps e h =
+  first : (st : Stage) (into : Rest → Rest) (onto : List Part → List Part) → ((r : Rest) → parts (into (left st r)) ≡ onto (parts (left st r)))
+      → (ps : List Part) → parts (read ps) ≡ ps → Ordered st ps → parts (into (read ps)) ≡ onto ps
+  first st into onto same ps e h =
       let r : Rest = read ps in
-      let q : r ≡ left st r = all_left st o r.extras r.information r.name r.addresses r.company (subst (Parts-run st o) (sym e) h) in
+      let q : r ≡ left st r = all_left st r.extras r.information r.name r.addresses r.company (subst (Ordered st) (sym e) h) in
       ap (λ (x : Rest). parts (into x)) q ∙ same r ∙ ap (λ (x : Rest). onto (parts x)) (sym q) ∙ ap onto e
 
   -- from any stage but behind address 1
-  written_read : (ps : List Part) (st : Stage) (o : OpenItem) → Closed st → Parts-run st o ps → parts (read ps) ≡ ps
-  written_read [] st o k h = refl
-  written_read (extra d x ∷ ps) st o k h = ap (λ l. extra d x ∷ l) (written_read ps _ _ tt h.2)
-  written_read (info u ∷ ps) st o k h = first _ _ (put (info u)) (λ l. info u ∷ l) (λ r. refl) ps (written_read ps _ _ tt h.2) h.2
-  written_read (name u ∷ ps) st o k h = first _ _ (put (name u)) (λ l. name u ∷ l) (λ r. refl) ps (written_read ps _ _ tt h.2) h.2
-  written_read (address1 u ∷ []) st o k h = absurd h.2
-  written_read (address1 u ∷ extra d x ∷ ps) st o k h = cc
-  written_read (address1 u ∷ info v ∷ ps) st o k h = cc
-  written_read (address1 u ∷ name v ∷ ps) st o k h = cc
-  written_read (address1 u ∷ address1 v ∷ ps) st o k h = cc
-  written_read (address1 u ∷ address2 v ∷ ps) st o k h =
-      first _ _ (λ r. put (address1 u) (put (address2 v) r)) (λ l. address1 u ∷ address2 v ∷ l) (λ r. refl) ps (written_read ps _ _ tt h.2.2) h.2.2
-  written_read (address1 u ∷ company m ∷ ps) st o k h = cc
-  written_read (address2 u ∷ ps) stage.Head o k h = cc
-  written_read (address2 u ∷ ps) stage.Information o k h = cc
-  written_read (address2 u ∷ ps) stage.Name o k h = cc
-  written_read (address2 u ∷ ps) stage.HalfAddress o k h = absurd k
-  written_read (address2 u ∷ ps) stage.Address o k h = cc
-  written_read (address2 u ∷ ps) stage.CompanyNumber o k h = cc
-  written_read (company m ∷ ps) st o k h = first _ _ (put (company m)) (λ l. company m ∷ l) (λ r. refl) ps (written_read ps _ _ tt h.2) h.2
+  written_read : (ps : List Part) (st : Stage) → Closed st → Ordered st ps → parts (read ps) ≡ ps
+  written_read [] st k h = refl
+  written_read (extra d x ∷ ps) st k h = ap (λ l. extra d x ∷ l) (written_read ps _ tt h.1)
+  written_read (info u ∷ ps) st k h = first _ (put (info u)) (λ l. info u ∷ l) (λ r. refl) ps (written_read ps _ tt h.1) h.1
+  written_read (name u ∷ ps) st k h = first _ (put (name u)) (λ l. name u ∷ l) (λ r. refl) ps (written_read ps _ tt h.1) h.1
+  written_read (address1 u ∷ []) st k h = absurd h.1
+  written_read (address1 u ∷ extra d x ∷ ps) st k h = cc
+  written_read (address1 u ∷ info v ∷ ps) st k h = cc
+  written_read (address1 u ∷ name v ∷ ps) st k h = cc
+  written_read (address1 u ∷ address1 v ∷ ps) st k h = cc
+  written_read (address1 u ∷ address2 v ∷ ps) st k h =
+      first _ (λ r. put (address1 u) (put (address2 v) r)) (λ l. address1 u ∷ address2 v ∷ l) (λ r. refl) ps (written_read ps _ tt h.1.1) h.1.1
+  written_read (address1 u ∷ company m ∷ ps) st k h = cc
+  written_read (address2 u ∷ ps) stage.Head k h = cc
+  written_read (address2 u ∷ ps) stage.Information k h = cc
+  written_read (address2 u ∷ ps) stage.Name k h = cc
+  written_read (address2 u ∷ ps) stage.HalfAddress k h = absurd k
+  written_read (address2 u ∷ ps) stage.Address k h = cc
+  written_read (address2 u ∷ ps) stage.CompanyNumber k h = cc
+  written_read (company m ∷ ps) st k h = first _ (put (company m)) (λ l. company m ∷ l) (λ r. refl) ps (written_read ps _ tt h.1) h.1
+
+  pub written_ordered : (ps : List Part) → Ordered stage.Head ps → written (item_of b t ps) ≡ ps
+  written_ordered ps h = written_read ps stage.Head tt h
 
   pub written-item : (ps : List Part) → Parts-run stage.Head (headed t.fields) ps → written (item_of b t ps) ≡ ps
-  written-item ps h = written_read ps stage.Head (headed t.fields) tt h
+  written-item ps h = written_ordered ps (run_ordered stage.Head (headed t.fields) ps h)
 
 -- STANDING. The machine passes over what an item writes where the item is right, and nowhere else.
 

@@ -2,7 +2,7 @@
 use Rattle.std.proofs.Common.{◌≡◌, ℕ, zero, suc, ◌+◌, ◌^◌, ◌<◌, ◌≤◌, true, false, cond, ◌&&◌, eqb, ltb, leb, List, [], ◌∷◌, map, length, get_or, is_some, Some, None, Option, sym, refl, ap, ◌∙◌, subst, arith}
 use Rattle.std.specs.List.{AllByRecursion}
 use Rattle.std.proofs.lemmas.List.{length-map}
-use Rattle.std.proofs.lemmas.Bool.{false≢true, cond-true, eqb-true, eq-eqb, leb-true, le-leb, ltb-true, lt-ltb, and_parts, and_from, or_parts}
+use Rattle.std.proofs.lemmas.Bool.{false≢true, cond-true, eqb-true, eq-eqb, leb-true, leb-false, le-leb, ltb-true, lt-ltb, and_parts, and_from, or_parts}
 use Rattle.field.specs.declared.money.Currency.{Currency}
 use Rattle.field.specs.declared.money.Currency.TheVariants.{Sek, Eur}
 use Rattle.record.specs.declared.fields.Deposit.{Deposit}
@@ -10,9 +10,9 @@ use Rattle.sums.specs.declared.Row.{Row}
 use Rattle.sums.specs.Table.{entered, enter, covered}
 use Rattle.sums.specs.Laws.{go_on, keys, Within, run, among, distinct, column_of, rows_of, added_of, taken_of, Summed, total as total_rows}
 use Rattle.manual.specs.declared.places.Stage.TheVariants as stage
-use Rattle.manual.specs.Judging.{Section as OpenSection, one_currency, room, none_owes, opened, headed}
-use Rattle.manual.specs.Laws.{judging}
-use Rattle.manual.specs.Manual.{Read, Item, Section, total, one_payment, paid, deducted, ItemStands, SectionStands}
+use Rattle.manual.specs.Judging.{Mode, Section as OpenSection, one_currency, room, none_owes, opened, headed}
+use Rattle.manual.specs.Laws.{judging, not_judging}
+use Rattle.manual.specs.Manual.{Read, Item, Section, total, one_payment, paid, deducted, ItemStands, SectionAdds, SectionStands}
 use Rattle.manual.specs.Accepting.{Roomy}
 use Rattle.manual.proofs.Roles.{adds, takes, agrees, with_head}
 use Rattle.manual.proofs.Tables.{entering}
@@ -21,23 +21,23 @@ use Rattle.manual.proofs.Parts.{item_stands, item_runs}
 
 -- The machine over a section.
 
-abbrev pub after-item : ℕ → OpenSection → Item → OpenSection
-after-item cap x i = with_head (judging cap) x i.payment i.transfer
+abbrev pub after-item : Mode → OpenSection → Item → OpenSection
+after-item mode x i = with_head mode x i.payment i.transfer
 
 -- the tests at the deposit, but for the stage of the item before it
-abbrev pub Deposit-runs : ℕ → OpenSection → Read Deposit → Type 0
-Deposit-runs cap x d = (ltb 0 x.payments ≡ true) × (none_owes (judging cap) x.rows ≡ true) × (agrees x d.fields ≡ true)
+abbrev pub Deposit-runs : Mode → OpenSection → Read Deposit → Type 0
+Deposit-runs mode x d = (ltb 0 x.payments ≡ true) × (none_owes mode x.rows ≡ true) × (agrees x d.fields ≡ true)
 
 -- the machine passes over the items, and then the deposit
-abbrev pub Heads-run : ℕ → OpenSection → List Item → Read Deposit → Type 0
-Heads-run cap x [] d = Deposit-runs cap x d
-Heads-run cap x (i ∷ is) d =
-    (room (judging cap) x.rows i.transfer.fields.payer (adds i.payment i.transfer) (takes i.payment i.transfer) ≡ true)
+abbrev pub Heads-run : Mode → OpenSection → List Item → Read Deposit → Type 0
+Heads-run mode x [] d = Deposit-runs mode x d
+Heads-run mode x (i ∷ is) d =
+    (room mode x.rows i.transfer.fields.payer (adds i.payment i.transfer) (takes i.payment i.transfer) ≡ true)
     × Parts-run stage.Head (headed i.transfer.fields) (written i)
-    × Heads-run cap (after-item cap x i) is d
+    × Heads-run mode (after-item mode x i) is d
 
-abbrev pub Section-runs : ℕ → Section → Type 0
-Section-runs cap s = Heads-run cap (opened s.opening.fields.currency) s.items s.deposit
+abbrev pub Section-runs : Mode → Section → Type 0
+Section-runs mode s = Heads-run mode (opened s.opening.fields.currency) s.items s.deposit
 
 -- few enough items, and no amount too large: what every file has
 pub record Tame (is : List Item) : Type 0 where
@@ -112,29 +112,45 @@ none-entered f (e ∷ es) p h =
     let o = or_parts (eqb e.key p) (among eqb (keys es) p) h in
     rw o.0 (omega (arith, none-entered f es p o.1))
 
-module _ (is : List Item) (tame : Tame is) (rows : List (Row ℕ)) (s : Summed eqb (entries is) rows) where
-  totals : (total_rows (λ (e : Row ℕ). e.added) (entries is) < 2 ^ 64) × (total_rows (λ (e : Row ℕ). e.taken) (entries is) < 2 ^ 64)
-  totals = entering.fits (entries is) (omega (arith, tame.few, length-map is entry)) (within_bounds is tame.small)
+-- a row that is short
+short_row : (rows : List (Row ℕ)) → covered rows ≡ false → (i : ℕ) × (i < length rows) × ((get_or rows i blank).added < (get_or rows i blank).taken)
+short_row [] h = absurd (false≢true (sym h))
+short_row (r ∷ rs) h =
+    (elim (leb r.taken r.added) as (λ b. leb r.taken r.added ≡ b → (b && covered rs) ≡ false → (i : ℕ) × (i < suc (length rs)) × ((get_or (r ∷ rs) i blank).added < (get_or (r ∷ rs) i blank).taken)) [
+      | true ↦ λ e q. let n = short_row rs q in (suc n.0, omega (arith, n.1), n.2)
+      | false ↦ λ e q. (0, omega arith, leb-false r.taken r.added e)
+    ]) refl h
 
-  added_is : (i : ℕ) → i < length rows → (get_or rows i blank).added ≡ added_of eqb (entries is) (get_or rows i blank).key
-  added_is i lt = s.added i blank lt (omega (arith, entering.part (λ r. r.added) (entries is) (get_or rows i blank).key, totals.0))
+-- where the entries are few and small
+module _ (es : List (Row ℕ)) (few : length es ≤ 50000) (small : AllByRecursion (Within 9999999999999) es) (rows : List (Row ℕ)) (s : Summed eqb es rows) where
+  totals : (total_rows (λ (e : Row ℕ). e.added) es < 2 ^ 64) × (total_rows (λ (e : Row ℕ). e.taken) es < 2 ^ 64)
+  totals = entering.fits es (omega (arith, few)) small
 
-  taken_is : (i : ℕ) → i < length rows → (get_or rows i blank).taken ≡ taken_of eqb (entries is) (get_or rows i blank).key
-  taken_is i lt = s.taken i blank lt (omega (arith, entering.part (λ r. r.taken) (entries is) (get_or rows i blank).key, totals.1))
+  added_is : (i : ℕ) → i < length rows → (get_or rows i blank).added ≡ added_of eqb es (get_or rows i blank).key
+  added_is i lt = s.added i blank lt (omega (arith, entering.part (λ r. r.added) es (get_or rows i blank).key, totals.0))
+
+  taken_is : (i : ℕ) → i < length rows → (get_or rows i blank).taken ≡ taken_of eqb es (get_or rows i blank).key
+  taken_is i lt = s.taken i blank lt (omega (arith, entering.part (λ r. r.taken) es (get_or rows i blank).key, totals.1))
 
   -- no row is short exactly where no payer owes
-  none_short : covered rows ≡ true → (p : ℕ) → taken_of eqb (entries is) p ≤ added_of eqb (entries is) p
+  pub none_short : covered rows ≡ true → (p : ℕ) → taken_of eqb es p ≤ added_of eqb es p
   none_short h p =
-      (elim (among eqb (keys (entries is)) p) as (λ b. among eqb (keys (entries is)) p ≡ b → taken_of eqb (entries is) p ≤ added_of eqb (entries is) p) [
+      (elim (among eqb (keys es) p) as (λ b. among eqb (keys es) p ≡ b → taken_of eqb es p ≤ added_of eqb es p) [
         | true ↦ λ e.
             let at = row_found rows p (omega (arith, s.one p e)) in
-            let less : taken_of eqb (entries is) (get_or rows at.0 blank).key ≤ added_of eqb (entries is) (get_or rows at.0 blank).key = omega (arith, covered_at rows at.0 h at.1, added_is at.0 at.1, taken_is at.0 at.1) in
-            subst (λ q. taken_of eqb (entries is) q ≤ added_of eqb (entries is) q) at.2 less
-        | false ↦ λ e. omega (arith, none-entered (λ r. r.taken) (entries is) p e)
+            let less : taken_of eqb es (get_or rows at.0 blank).key ≤ added_of eqb es (get_or rows at.0 blank).key = omega (arith, covered_at rows at.0 h at.1, added_is at.0 at.1, taken_is at.0 at.1) in
+            subst (λ q. taken_of eqb es q ≤ added_of eqb es q) at.2 less
+        | false ↦ λ e. omega (arith, none-entered (λ r. r.taken) es p e)
       ]) refl
 
-  short_none : ((p : ℕ) → taken_of eqb (entries is) p ≤ added_of eqb (entries is) p) → covered rows ≡ true
+  pub short_none : ((p : ℕ) → taken_of eqb es p ≤ added_of eqb es p) → covered rows ≡ true
   short_none h = at_covered rows (λ i lt. omega (arith, h (get_or rows i blank).key, added_is i lt, taken_is i lt))
+
+  -- and some payer owes where a row is short
+  pub some_short : covered rows ≡ false → (p : ℕ) × (added_of eqb es p < taken_of eqb es p)
+  some_short h =
+      let at = short_row rows h in
+      ((get_or rows at.0 blank).key, omega (arith, at.2, added_is at.0 at.1, taken_is at.0 at.1))
 
 -- What a deposit agrees with.
 
@@ -148,72 +164,87 @@ currency-same : (a b : Currency) → a ≡ b → one_currency a b ≡ true
 currency-same Sek b e = subst (λ c. one_currency Sek c ≡ true) e refl
 currency-same Eur b e = subst (λ c. one_currency Eur c ≡ true) e refl
 
-right : (x : OpenSection) (d : Deposit) → agrees x d ≡ true → (d.currency ≡ x.currency) × (d.count ≡ x.records) × (d.sum + x.minus ≡ x.plus)
+pub right : (x : OpenSection) (d : Deposit) → agrees x d ≡ true → (d.currency ≡ x.currency) × (d.count ≡ x.records) × (d.sum + x.minus ≡ x.plus)
 right x d h =
     let a = and_parts (one_currency d.currency x.currency) (eqb d.count x.records && eqb (d.sum + x.minus) x.plus) h in
     let b = and_parts (eqb d.count x.records) (eqb (d.sum + x.minus) x.plus) a.1 in
     (same_currency _ _ a.0, eqb-true _ _ b.0, eqb-true _ _ b.1)
 
-rightly : (x : OpenSection) (d : Deposit) → d.currency ≡ x.currency → d.count ≡ x.records → d.sum + x.minus ≡ x.plus → agrees x d ≡ true
+pub rightly : (x : OpenSection) (d : Deposit) → d.currency ≡ x.currency → d.count ≡ x.records → d.sum + x.minus ≡ x.plus → agrees x d ≡ true
 rightly x d e f g = and_from _ _ (currency-same _ _ e) (and_from _ _ (eq-eqb _ _ f) (eq-eqb _ _ g))
 
 -- Over the items from any state of the section.
 
-record Heads-stand (cap : ℕ) (x : OpenSection) (is : List Item) (d : Read Deposit) : Type 0 where
+-- but for the payers
+record Heads-add (x : OpenSection) (is : List Item) (d : Read Deposit) : Type 0 where
   items : AllByRecursion ItemStands is
-  final : List (Row ℕ)
-  table : run eqb cap x.rows (entries is) ≡ Some final
-  none_short : covered final ≡ true
   some_payment : 0 < x.payments + total one_payment is
   currency : d.fields.currency ≡ x.currency
   count : d.fields.count ≡ x.records + length is
   sum : d.fields.sum + (x.minus + total deducted is) ≡ x.plus + total paid is
 
-heads_stand : (cap : ℕ) (is : List Item) (x : OpenSection) (d : Read Deposit) → Heads-run cap x is d → Heads-stand cap x is d
-heads_stand cap [] x d h =
+-- and the payers, where they are judged
+record Heads-pay (cap : ℕ) (x : OpenSection) (is : List Item) : Type 0 where
+  final : List (Row ℕ)
+  table : run eqb cap x.rows (entries is) ≡ Some final
+  none_short : covered final ≡ true
+
+heads_add : (mode : Mode) (is : List Item) (x : OpenSection) (d : Read Deposit) → Heads-run mode x is d → Heads-add x is d
+heads_add mode [] x d h =
     let a = right x d.fields h.2 in
     record {
       items = tt;
-      final = x.rows;
-      table = refl;
-      none_short = h.1;
       some_payment = omega (arith, ltb-true 0 x.payments h.0);
       currency = a.0;
       count = omega (arith, a.1);
       sum = omega (arith, a.2);
     }
-heads_stand cap (i ∷ is) x d h =
-    let n = heads_stand cap is (after-item cap x i) d h.2 in
+heads_add mode (i ∷ is) x d h =
+    let n = heads_add mode is (after-item mode x i) d h.2 in
     record {
       items = (item_stands i h.1, n.items);
-      final = n.final;
-      table = run_on cap x.rows (entry i) (entries is) h.0 ∙ n.table;
-      none_short = n.none_short;
       some_payment = omega (arith, n.some_payment);
       currency = n.currency;
       count = omega (arith, n.count);
       sum = omega (arith, n.sum);
     }
 
-heads_run : (cap : ℕ) (is : List Item) (x : OpenSection) (d : Read Deposit) → Heads-stand cap x is d → Heads-run cap x is d
-heads_run cap [] x d n =
-    let same : x.rows ≡ n.final = let e = n.table in cc in
-    (lt-ltb 0 x.payments (omega (arith, n.some_payment)), subst (λ t. covered t ≡ true) (sym same) n.none_short, rightly x d.fields n.currency (omega (arith, n.count)) (omega (arith, n.sum)))
-heads_run cap (i ∷ is) x d n =
-    let fit = run_off cap x.rows (entry i) (entries is) n.final n.table in (
+-- back, one item at a time
+add-last : (x : OpenSection) (d : Read Deposit) → Heads-add x [] d → (ltb 0 x.payments ≡ true) × (agrees x d.fields ≡ true)
+add-last x d n = (lt-ltb 0 x.payments (omega (arith, n.some_payment)), rightly x d.fields n.currency (omega (arith, n.count)) (omega (arith, n.sum)))
+
+add-next : (mode : Mode) (i : Item) (is : List Item) (x : OpenSection) (d : Read Deposit) → Heads-add x (i ∷ is) d → Heads-add (after-item mode x i) is d
+add-next mode i is x d n = record {
+  items = n.items.1;
+  some_payment = omega (arith, n.some_payment);
+  currency = n.currency;
+  count = omega (arith, n.count);
+  sum = omega (arith, n.sum);
+}
+
+heads_pay : (cap : ℕ) (is : List Item) (x : OpenSection) (d : Read Deposit) → Heads-run (judging cap) x is d → Heads-pay cap x is
+heads_pay cap [] x d h = record { final = x.rows; table = refl; none_short = h.1 }
+heads_pay cap (i ∷ is) x d h =
+    let n = heads_pay cap is (after-item (judging cap) x i) d h.2 in
+    record { final = n.final; table = run_on cap x.rows (entry i) (entries is) h.0 ∙ n.table; none_short = n.none_short }
+
+heads_run : (cap : ℕ) (is : List Item) (x : OpenSection) (d : Read Deposit) → Heads-add x is d → Heads-pay cap x is → Heads-run (judging cap) x is d
+heads_run cap [] x d n p =
+    let same : x.rows ≡ p.final = let e = p.table in cc in
+    let l = add-last x d n in
+    (l.0, subst (λ t. covered t ≡ true) (sym same) p.none_short, l.1)
+heads_run cap (i ∷ is) x d n p =
+    let fit = run_off cap x.rows (entry i) (entries is) p.final p.table in (
       fit,
       item_runs i n.items.0,
-      heads_run cap is (after-item cap x i) d (record {
-        items = n.items.1;
-        final = n.final;
-        table = sym (run_on cap x.rows (entry i) (entries is) fit) ∙ n.table;
-        none_short = n.none_short;
-        some_payment = omega (arith, n.some_payment);
-        currency = n.currency;
-        count = omega (arith, n.count);
-        sum = omega (arith, n.sum);
-      }),
+      heads_run cap is (after-item (judging cap) x i) d (add-next (judging cap) i is x d n)
+          (record { final = p.final; table = sym (run_on cap x.rows (entry i) (entries is) fit) ∙ p.table; none_short = p.none_short }),
     )
+
+-- where they are not judged, nothing more is asked
+plain_run : (is : List Item) (x : OpenSection) (d : Read Deposit) → Heads-add x is d → Heads-run not_judging x is d
+plain_run [] x d n = let l = add-last x d n in (l.0, refl, l.1)
+plain_run (i ∷ is) x d n = (refl, item_runs i n.items.0, plain_run is (after-item not_judging x i) d (add-next not_judging i is x d n))
 
 -- From the opening record on.
 
@@ -221,19 +252,38 @@ payers_keys : (is : List Item) → keys (entries is) ≡ map (λ (i : Item). i.t
 payers_keys [] = refl
 payers_keys (i ∷ is) = ap (λ l. i.transfer.fields.payer ∷ l) (payers_keys is)
 
-pub section_stands : (cap : ℕ) (s : Section) → Tame s.items → Section-runs cap s → SectionStands s × Roomy cap s
+pub section_adds : (mode : Mode) (s : Section) → Section-runs mode s → SectionAdds s
+section_adds mode s h =
+    let n = heads_add mode s.items (opened s.opening.fields.currency) s.deposit h in
+    record {
+      each_item = n.items;
+      some_payment = omega (arith, n.some_payment);
+      same_currency = n.currency;
+      count = omega (arith, n.count);
+      sum = omega (arith, n.sum);
+    }
+
+adds_heads : (s : Section) → SectionAdds s → Heads-add (opened s.opening.fields.currency) s.items s.deposit
+adds_heads s n = record {
+  items = n.each_item;
+  some_payment = omega (arith, n.some_payment);
+  currency = n.same_currency;
+  count = omega (arith, n.count);
+  sum = omega (arith, n.sum);
+}
+
+pub adds_run : (s : Section) → SectionAdds s → Section-runs not_judging s
+adds_run s n = plain_run s.items (opened s.opening.fields.currency) s.deposit (adds_heads s n)
+
+pub section_stands : (cap : ℕ) (s : Section) → Tame s.items → Section-runs (judging cap) s → SectionStands s × Roomy cap s
 section_stands cap s tame h =
-    let n = heads_stand cap s.items (opened s.opening.fields.currency) s.deposit h in
+    let n = heads_pay cap s.items (opened s.opening.fields.currency) s.deposit h in
     let es : List (Row ℕ) = entries s.items in
-    let owes : (p : ℕ) → taken_of eqb es p ≤ added_of eqb es p = none_short s.items tame n.final (entering.summed cap es n.final n.table) n.none_short in
+    let owes : (p : ℕ) → taken_of eqb es p ≤ added_of eqb es p = none_short es (omega (arith, tame.few, length-map s.items entry)) (within_bounds s.items tame.small) n.final (entering.summed cap es n.final n.table) n.none_short in
     let roomy : distinct eqb (keys es) ≤ cap = (entering.enough cap es).0 (ap is_some n.table) in (
       record {
-        each_item = n.items;
-        some_payment = omega (arith, n.some_payment);
+        adds = section_adds (judging cap) s h;
         none_owes = λ p. omega (arith, owes p, sums_of (λ r. r.taken) p s.items, sums_of (λ r. r.added) p s.items);
-        same_currency = n.currency;
-        count = omega (arith, n.count);
-        sum = omega (arith, n.sum);
       },
       subst (λ ps. distinct eqb ps ≤ cap) (payers_keys s.items) roomy,
     )
@@ -242,17 +292,12 @@ some_of : {A : Type 0} (o : Option A) → is_some o ≡ true → (x : A) × (o �
 some_of None h = absurd (false≢true h)
 some_of (Some x) h = (x, refl)
 
-pub section_runs : (cap : ℕ) (s : Section) → Tame s.items → SectionStands s → Roomy cap s → Section-runs cap s
+pub section_runs : (cap : ℕ) (s : Section) → Tame s.items → SectionStands s → Roomy cap s → Section-runs (judging cap) s
 section_runs cap s tame n roomy =
     let es : List (Row ℕ) = entries s.items in
     let table = some_of (run eqb cap [] es) ((entering.enough cap es).1 (subst (λ ps. distinct eqb ps ≤ cap) (sym (payers_keys s.items)) roomy)) in
-    heads_run cap s.items (opened s.opening.fields.currency) s.deposit (record {
-      items = n.each_item;
+    heads_run cap s.items (opened s.opening.fields.currency) s.deposit (adds_heads s n.adds) (record {
       final = table.0;
       table = table.1;
-      none_short = short_none s.items tame table.0 (entering.summed cap es table.0 table.1) (λ p. omega (arith, n.none_owes p, sums_of (λ r. r.taken) p s.items, sums_of (λ r. r.added) p s.items));
-      some_payment = omega (arith, n.some_payment);
-      currency = n.same_currency;
-      count = omega (arith, n.count);
-      sum = omega (arith, n.sum);
+      none_short = short_none es (omega (arith, tame.few, length-map s.items entry)) (within_bounds s.items tame.small) table.0 (entering.summed cap es table.0 table.1) (λ p. omega (arith, n.none_owes p, sums_of (λ r. r.taken) p s.items, sums_of (λ r. r.added) p s.items));
     })

@@ -28,7 +28,7 @@ tested true o x h = (refl, h)
 tested false o x h = absurd (grind arith)
 
 -- bytes that are cut: a whole record, its line end, and what is left
-cut_parts : (bs : List ℕ) (e : LineEnd) → cut bs ≡ Some e → Whole (take 80 bs) × (bs ≡ take 80 bs ++ (end_bytes e ++ drop (width e) bs))
+pub cut_parts : (bs : List ℕ) (e : LineEnd) → cut bs ≡ Some e → Whole (take 80 bs) × (bs ≡ take 80 bs ++ (end_bytes e ++ drop (width e) bs))
 cut_parts bs e h =
     let t = tested _ (line_end (drop 80 bs)) e h in
     let p = and_parts (leb 80 (length bs)) (every is_text (take 80 bs)) t.0 in (

@@ -1,285 +1,232 @@
--- Cause 7 comes exactly at the record where the payer table is too short: beside the judge with a table stands one with one row more.
-use Rattle.std.proofs.Common.{◌≡◌, ℕ, zero, suc, ◌+◌, ◌<◌, ◌≤◌, Bool, true, false, cond, eqb, leb, List, [], ◌∷◌, ◌++◌, length, take, is_some, Some, None, Ok, Err, Option, Result, sym, refl, ap, ◌∙◌, subst, arith}
-use Rattle.std.specs.List.{between, AllByRecursion}
-use Rattle.std.proofs.lemmas.List.{map_push}
-use Rattle.std.proofs.lemmas.Bool.{false≢true, leb-true, le-leb, cond_both}
+-- Cause 7 comes exactly at the record where the payer table is too short, where nothing else is wrong up to there.
+use Rattle.std.proofs.Common.{◌≡◌, ℕ, zero, suc, ◌<◌, ◌≤◌, eqb, List, [], ◌∷◌, ◌++◌, length, take, Some, None, Ok, Err, Option, Result, sym, refl, ap, ◌∙◌, subst, inl, inr, arith}
+use Rattle.std.specs.List.{between}
 use Rattle.field.specs.Chains.{then}
 use Rattle.record.specs.declared.kinds.Kind.{Kind}
 use Rattle.record.specs.declared.fields.Core.{Core}
 use Rattle.record.specs.declared.fields.Core.TheVariants as core
-use Rattle.record.specs.declared.fields.End.{End}
 use Rattle.record.specs.declared.fields.Field.{Field}
-use Rattle.record.specs.declared.classes.Class.{Class}
-use Rattle.record.specs.declared.classes.Class.TheVariants as class
-use Rattle.record.specs.Classes.{class_of}
+use Rattle.record.specs.declared.faults.RecordFault.TheVariants.{Code, Layout}
 use Rattle.record.specs.Editions.{Meaning}
 use Rattle.record.specs.Layouts.{read_core}
-use Rattle.record.specs.Reserve.{used}
 use Rattle.record.specs.Laws.{kind_at}
-use Rattle.sums.specs.declared.Row.{Row}
-use Rattle.sums.specs.Table.{grown, entered, enter}
-use Rattle.sums.specs.Laws.{Exactly, go_on, keys, run, distinct}
+use Rattle.record.specs.Reserve.{used}
+use Rattle.sums.specs.Laws.{Exactly, distinct}
 use Rattle.manual.specs.declared.faults.Cause.{Cause}
 use Rattle.manual.specs.declared.faults.Cause.TheVariants as cause
-use Rattle.manual.specs.declared.faults.FileFault.{FileFault}
-use Rattle.manual.specs.Slots.{Slot, whole, broken, slots}
-use Rattle.manual.specs.Judging.{State, tests, after, room, in_order, first, step, begin, ended, at_record, then_on, judge, check_of}
-use Rattle.manual.specs.Laws.{NotBefore, judging}
+use Rattle.manual.specs.Slots.{Slot, whole, broken, front, slots}
+use Rattle.manual.specs.Judging.{Mode, at_record, check_of}
+use Rattle.manual.specs.Laws.{judging}
 use Rattle.manual.specs.Manual.{leaf}
-use Rattle.manual.specs.Accepting.{payers_behind, payers_read, payers_by, payers_from, front, TooShort}
-use Rattle.manual.proofs.Classes.{Seen, seen}
-use Rattle.manual.proofs.Numbers.{not-before, number_within}
-use Rattle.manual.proofs.Tables.{entering}
+use Rattle.manual.specs.Payers.{payers_behind, payers_read, payers_by, payers_from}
+use Rattle.manual.specs.Wrong.{come, Has, Crowded, Owing, Unsettled, Miscounted, Wrong, WrongRecord, rank, slot_at, WrongAt, FirstWrong}
+use Rattle.manual.specs.Accepting.{TooShort}
+use Rattle.manual.proofs.FirstWrongs.{same_cause, first_wrong}
+use Rattle.manual.proofs.Knowing.{payers_more}
+use Rattle.manual.proofs.Numbers.{number_within}
 
--- The payers' table.
+-- ONE RECORD does to the payers of the open section one of three things.
 
--- an entry into a table of this size, if it finds room
-abbrev put : ℕ → Row ℕ → List (Row ℕ) → Option (List (Row ℕ))
-put cap e rows = enter eqb cap rows e.key e.added e.taken
+-- it is a payment or deduction of this payer
+abbrev Heads : Core → ℕ → Type 0
+Heads (core.Payment t) p = t.payer ≡ p
+Heads (core.Deduction t) p = t.payer ≡ p
+Heads other p = ⊥
 
--- one entry more, behind the others
-run_more : (cap : ℕ) (e : Row ℕ) (es rows : List (Row ℕ)) → run eqb cap rows (es ++ e ∷ []) ≡ go_on (run eqb cap rows es) (put cap e)
-run_more cap e [] rows = whole_of (put cap e rows)
-  where
-    whole_of : (o : Option (List (Row ℕ))) → go_on o (λ t. Some t) ≡ o
-    whole_of None = refl
-    whole_of (Some t) = refl
-run_more cap e (x ∷ es) rows = by (put cap x rows) (run_more cap e es)
-  where
-    by : (o : Option (List (Row ℕ))) → ((t : List (Row ℕ)) → run eqb cap t (es ++ e ∷ []) ≡ go_on (run eqb cap t es) (put cap e))
-        → go_on o (λ t. run eqb cap t (es ++ e ∷ [])) ≡ go_on (go_on o (λ t. run eqb cap t es)) (put cap e)
-    by None h = refl
-    by (Some t) h = h t
+data Step (ps : List ℕ) (r : List ℕ) : List ℕ → Type 0 where
+  same : Step ps r ps
+  none : Step ps r []
+  more : (c : Core) (p : ℕ) → Has r c → Heads c p → Step ps r (ps ++ p ∷ [])
 
--- an entry takes at most one row more
-one_longer : (rows : List (Row ℕ)) (p a t : ℕ) → length (entered eqb rows p a t) ≤ suc (length rows)
-one_longer [] p a t = omega arith
-one_longer (r ∷ rs) p a t =
-    elim (eqb r.key p) as (λ b. length (cond b (grown r a t ∷ rs) (r ∷ entered eqb rs p a t)) ≤ suc (suc (length rs))) [
-      | true ↦ omega arith
-      | false ↦ omega (arith, one_longer rs p a t)
-    ]
+step_core : (ps r : List ℕ) (c : Core) → Has r c → Step ps r (payers_behind ps c)
+step_core ps r (core.Start x) h = same
+step_core ps r (core.Opening x) h = none
+step_core ps r (core.Deposit x) h = same
+step_core ps r (core.Payment t) h = more (core.Payment t) t.payer h refl
+step_core ps r (core.Deduction t) h = more (core.Deduction t) t.payer h refl
+step_core ps r (core.ExtraReference t) h = same
+step_core ps r (core.NegativeReference t) h = same
+step_core ps r core.Information h = same
+step_core ps r core.Name h = same
+step_core ps r core.AddressOne h = same
+step_core ps r core.AddressTwo h = same
+step_core ps r (core.CompanyNumber n) h = same
+step_core ps r (core.End x) h = same
 
--- a table of this size has these rows behind entries of these payers, one by one
-record Held (cap : ℕ) (rows : List (Row ℕ)) (ps : List ℕ) : Type 0 where
-  entries : List (Row ℕ)
-  payers : keys entries ≡ ps
-  filled : run eqb cap [] entries ≡ Some rows
-  fit : length rows ≤ cap
+step_read : (ps r : List ℕ) (k : Kind) (t : List ℕ) (read : Result Core Field) → kind_at r ≡ Some k → read_core k (between 2 (length r) r) ≡ read
+    → Step ps r (payers_read ps (then read (λ c. Ok (leaf c t))))
+step_read ps r k t (Ok c) is q = step_core ps r c (record { kind = k; coded = is; keeps = q })
+step_read ps r k t (Err f) is q = same
 
-none-held : (cap : ℕ) → Held cap [] []
-none-held cap = record { entries = []; payers = refl; filled = refl; fit = omega arith }
+step_by : (ps r : List ℕ) (o : Option Kind) → kind_at r ≡ o → Step ps r (payers_by ps o r)
+step_by ps r None is = same
+step_by ps r (Some k) is = step_read ps r k (between 2 (used k) r) (read_core k (between 2 (length r) r)) is refl
 
--- then the distinct payers are no more than its size
-few : {cap : ℕ} {rows : List (Row ℕ)} {ps : List ℕ} → Held cap rows ps → distinct eqb ps ≤ cap
-few {cap} h = subst (λ l. distinct eqb l ≤ cap) h.payers ((entering.enough cap h.entries).0 (ap is_some h.filled))
+-- so where one more payer than the table has rows is there behind it, it is that payment or deduction
+module _ (rows : ℕ) (before : List (List ℕ)) (r : List ℕ) where
+  abbrev ps : List ℕ
+  ps = payers_from [] before
 
--- one entry more
-module _ {cap : ℕ} {rows : List (Row ℕ)} {ps : List ℕ} (h : Held cap rows ps) (p a t : ℕ) where
-  abbrev entry : Row ℕ
-  entry = record { key = p; added = a; taken = t }
+  crowds : (c : Core) (p : ℕ) → Heads c p → rows < distinct eqb (ps ++ p ∷ []) → Crowded (judging rows) before c
+  crowds (core.Start x) p h l = absurd h
+  crowds (core.Opening x) p h l = absurd h
+  crowds (core.Deposit x) p h l = absurd h
+  crowds (core.Payment t) p h l = (refl, subst (λ q. rows < distinct eqb (ps ++ q ∷ [])) (sym h) l)
+  crowds (core.Deduction t) p h l = (refl, subst (λ q. rows < distinct eqb (ps ++ q ∷ [])) (sym h) l)
+  crowds (core.ExtraReference t) p h l = absurd h
+  crowds (core.NegativeReference t) p h l = absurd h
+  crowds core.Information p h l = absurd h
+  crowds core.Name p h l = absurd h
+  crowds core.AddressOne p h l = absurd h
+  crowds core.AddressTwo p h l = absurd h
+  crowds (core.CompanyNumber n) p h l = absurd h
+  crowds (core.End x) p h l = absurd h
 
-  abbrev new : List (Row ℕ)
-  new = entered eqb rows p a t
+  step_crowds : (next : List ℕ) → Step ps r next → distinct eqb ps ≤ rows → rows < distinct eqb next → (c : Core) × Has r c × Crowded (judging rows) before c
+  step_crowds _ same le l = absurd (omega (arith, le, l))
+  step_crowds _ none le l = absurd (omega (arith, l))
+  step_crowds _ (more c p h s) le l = (c, h, crowds c p s l)
 
-  payers_more : keys (h.entries ++ entry ∷ []) ≡ ps ++ p ∷ []
-  payers_more = map_push (λ (r : Row ℕ). r.key) h.entries entry ∙ ap (λ l. l ++ p ∷ []) h.payers
-
-  filled_more : (b : Bool) → leb (length new) cap ≡ b → run eqb cap [] (h.entries ++ entry ∷ []) ≡ cond b (Some new) None
-  unfolding enter
-  filled_more b e = run_more cap entry h.entries [] ∙ ap (λ o. go_on o (put cap entry)) h.filled ∙ ap (λ b. cond b (Some new) None) e
-
-  -- where there is room for it
-  held_more : leb (length new) cap ≡ true → Held cap new (ps ++ p ∷ [])
-  held_more e = record { entries = h.entries ++ entry ∷ []; payers = payers_more; filled = filled_more true e; fit = leb-true _ _ e }
-
-  -- where there is none, the distinct payers are more than the table has rows
-  too_many : leb (length new) cap ≡ false → cap < distinct eqb (ps ++ p ∷ [])
-  too_many e = omega (arith, not-few)
+  -- and the other way round
+  crowd_step : (c : Core) → Has r c → Crowded (judging rows) before c → rows < distinct eqb (payers_by ps (kind_at r) r)
+  crowd_step c h w = subst (λ o. rows < distinct eqb (payers_by ps o r)) (sym h.coded) (subst (λ x. rows < distinct eqb (payers_read ps (then x (λ y. Ok (leaf y (between 2 (used h.kind) r)))))) (sym h.keeps) (by c w))
     where
-      not-few : distinct eqb (ps ++ p ∷ []) ≤ cap → ⊥
-      not-few le =
-          let room : is_some (run eqb cap [] (h.entries ++ entry ∷ [])) ≡ true = (entering.enough cap _).1 (subst (λ l. distinct eqb l ≤ cap) (sym payers_more) le) in
-          false≢true (sym (ap is_some (filled_more false e)) ∙ room)
+      by : (c : Core) → Crowded (judging rows) before c → rows < distinct eqb (payers_behind ps c)
+      by (core.Start x) w = absurd w
+      by (core.Opening x) w = absurd w
+      by (core.Deposit x) w = absurd w
+      by (core.Payment t) w = w.1
+      by (core.Deduction t) w = w.1
+      by (core.ExtraReference t) w = absurd w
+      by (core.NegativeReference t) w = absurd w
+      by core.Information w = absurd w
+      by core.Name w = absurd w
+      by core.AddressOne w = absurd w
+      by core.AddressTwo w = absurd w
+      by (core.CompanyNumber n) w = absurd w
+      by (core.End x) w = absurd w
 
-  -- with one row more there always is
-  one-more-fits : leb (length new) (suc cap) ≡ true
-  one-more-fits = le-leb _ _ (omega (arith, one_longer rows p a t, h.fit))
+  -- of a payment or deduction nothing is asked behind that
+  disjoint : (c : Core) → Crowded (judging rows) before c → (Owing (judging rows) (come before) c → ⊥) × (Unsettled (come before) c → ⊥) × (Miscounted (come before) c → ⊥)
+  disjoint (core.Start x) w = absurd w
+  disjoint (core.Opening x) w = absurd w
+  disjoint (core.Deposit x) w = absurd w
+  disjoint (core.Payment t) w = (λ o. o, λ o. o, λ o. o)
+  disjoint (core.Deduction t) w = (λ o. o, λ o. o, λ o. o)
+  disjoint (core.ExtraReference t) w = absurd w
+  disjoint (core.NegativeReference t) w = absurd w
+  disjoint core.Information w = absurd w
+  disjoint core.Name w = absurd w
+  disjoint core.AddressOne w = absurd w
+  disjoint core.AddressTwo w = absurd w
+  disjoint (core.CompanyNumber n) w = absurd w
+  disjoint (core.End x) w = absurd w
 
--- One record before both judges.
+  one_core : (c x : Core) → Has r c → Has r x → x ≡ c
+  one_core c x h w =
+      let k : Some w.kind ≡ Some h.kind = sym w.coded ∙ h.coded in
+      let l : w.kind ≡ h.kind = cc in
+      let z : Ok x ≡ Ok c = sym w.keeps ∙ ap (λ j. read_core j (between 2 (length r) r)) l ∙ h.keeps in
+      cc
 
--- every cause but 7
-abbrev Other : Cause → Type 0
-Other cause.Broken = Unit {0}
-Other (cause.Unreadable e) = Unit {0}
-Other cause.Order = Unit {0}
-Other cause.UnlikeItem = Unit {0}
-Other cause.Information = Unit {0}
-Other cause.NoPlace = ⊥
-Other cause.PayerOwes = Unit {0}
-Other cause.Deposit = Unit {0}
-Other cause.Counts = Unit {0}
-Other cause.TooMany = Unit {0}
-Other cause.Unfinished = Unit {0}
-Other cause.RiderIllFormed = Unit {0}
-Other cause.RiderLevel = Unit {0}
+  alone : (m : Meaning) (c : Core) → Has r c → Crowded (judging rows) before c → (d : Cause) → 9 < rank d → WrongRecord (judging rows) m before r d → ⊥
+  alone m c h w cause.Broken l x = x
+  alone m c h w (cause.Unreadable Code) l x = absurd (omega arith)
+  alone m c h w (cause.Unreadable (Layout f)) l x = absurd (omega arith)
+  alone m c h w cause.Order l x = absurd (omega arith)
+  alone m c h w cause.UnlikeItem l x = absurd (omega arith)
+  alone m c h w cause.Information l x = absurd (omega arith)
+  alone m c h w cause.NoPlace l x = absurd (omega arith)
+  alone m c h w cause.PayerOwes l x = (disjoint c w).0 (subst (Owing (judging rows) (come before)) (one_core c x.0 h x.1) x.2)
+  alone m c h w cause.Deposit l x = (disjoint c w).1 (subst (Unsettled (come before)) (one_core c x.0 h x.1) x.2)
+  alone m c h w cause.Counts l x = (disjoint c w).2 (subst (Miscounted (come before)) (one_core c x.0 h x.1) x.2)
+  alone m c h w cause.TooMany l x = x
+  alone m c h w cause.Unfinished l x = x
+  alone m c h w cause.RiderIllFormed l x = absurd (omega arith)
+  alone m c h w cause.RiderLevel l x = absurd (omega arith)
 
--- a record behind which these are the payers: both go on to one state, both stop by another cause, or the first finds the table too short
-data Turn (rows : ℕ) (ps : List ℕ) : Result State Cause → Result State Cause → Type 0 where
-  on : (t : State) → Held rows t.section.rows ps → Turn rows ps (Ok t) (Ok t)
-  stopped : (c : Cause) → Other c → Turn rows ps (Err c) (Err c)
-  full : (t : State) → rows < distinct eqb ps → Turn rows ps (Err cause.NoPlace) (Ok t)
+-- RECORDS AND SLOTS. The first k records of a file, the first k + 1, and what stands between them.
 
--- tests that do not depend on the table
-plain : (rows : ℕ) (ps : List ℕ) (t : State) → Held rows t.section.rows ps → (ts : List (Bool × Cause)) → AllByRecursion (λ x. Other x.1) ts → Turn rows ps (first ts t) (first ts t)
-plain rows ps t h [] o = on t h
-plain rows ps t h (x ∷ xs) o =
-    elim x.0 as (λ b. Turn rows ps (cond b (first xs t) (Err x.1)) (cond b (first xs t) (Err x.1))) [
-      | true ↦ plain rows ps t h xs o.1
-      | false ↦ stopped x.1 o.0
-    ]
+data View : List (List ℕ) → List (List ℕ) → Option Slot → Type 0 where
+  there : (b : List (List ℕ)) (r : List ℕ) → View b (b ++ r ∷ []) (Some (whole r))
+  ends : (b : List (List ℕ)) → View b b None
+  breaks : (b : List (List ℕ)) → View b b (Some broken)
 
--- tests of order and of room, where one row more is room enough
-spaced : (rows : ℕ) (ps : List ℕ) (t : State) (b v w : Bool) → (v ≡ true → Held rows t.section.rows ps) → (v ≡ false → rows < distinct eqb ps) → w ≡ true
-    → Turn rows ps (first ((b, cause.Order) ∷ (v, cause.NoPlace) ∷ []) t) (first ((b, cause.Order) ∷ (w, cause.NoPlace) ∷ []) t)
-spaced rows ps t false v w h l e = stopped cause.Order tt
-spaced rows ps t true true true h l e = on t (h refl)
-spaced rows ps t true false true h l e = full t (l refl)
-spaced rows ps t true v false h l e = absurd (false≢true e)
+view_on : (q : List ℕ) (b a : List (List ℕ)) (o : Option Slot) → View b a o → View (q ∷ b) (q ∷ a) o
+view_on q _ _ _ (there b r) = there (q ∷ b) r
+view_on q _ _ _ (ends b) = ends (q ∷ b)
+view_on q _ _ _ (breaks b) = breaks (q ∷ b)
 
-module _ (rows : ℕ) (s : State) (ps : List ℕ) (h : Held rows s.section.rows ps) where
-  -- a payment or deduction
-  entry_turn : (b : Bool) (t : State) (p a d : ℕ) → entered eqb s.section.rows p a d ≡ t.section.rows
-      → Turn rows (ps ++ p ∷ [])
-      (first ((b, cause.Order) ∷ (room (judging rows) s.section.rows p a d, cause.NoPlace) ∷ []) t)
-      (first ((b, cause.Order) ∷ (room (judging (suc rows)) s.section.rows p a d, cause.NoPlace) ∷ []) t)
-  entry_turn b t p a d is =
-      spaced rows (ps ++ p ∷ []) t b _ _ (λ e. subst (λ l. Held rows l (ps ++ p ∷ [])) is (held_more h p a d e)) (too_many h p a d) (one-more-fits h p a d)
+view : (ss : List Slot) (k : ℕ) → View (take k (front ss)) (take (suc k) (front ss)) (slot_at k ss)
+view [] zero = ends []
+view [] (suc k) = ends []
+view (broken ∷ ss) zero = breaks []
+view (broken ∷ ss) (suc k) = ends []
+view (whole r ∷ ss) zero = there [] r
+view (whole r ∷ ss) (suc k) = view_on r (take k (front ss)) (take (suc k) (front ss)) (slot_at k ss) (view ss k)
 
-  -- a record whose tests do not depend on the table
-  calm : (c : Class) (qs : List ℕ) → Held rows (after (judging rows) s c).section.rows qs → AllByRecursion (λ x. Other x.1) (tests (judging rows) s c)
-      → Turn rows qs (step (judging rows) s c) (step (judging rows) s c)
-  calm c qs h o = plain rows qs (after (judging rows) s c) h (tests (judging rows) s c) o
+module _ (rows : ℕ) (m : Meaning) where
+  abbrev mode : Mode
+  mode = judging rows
 
-  core_turn : (k : Kind) (c : Core) → Turn rows (payers_behind ps c) (step (judging rows) s (class.Core k (Ok c))) (step (judging (suc rows)) s (class.Core k (Ok c)))
-  core_turn k (core.Start x) = calm (class.Core k (Ok (core.Start x))) ps h (tt, tt)
-  core_turn k (core.Opening x) = calm (class.Core k (Ok (core.Opening x))) [] (none-held rows) (tt, tt)
-  core_turn k (core.Deposit d) = calm (class.Core k (Ok (core.Deposit d))) ps h (tt, (tt, (tt, tt)))
-  core_turn k (core.Payment t) = entry_turn (in_order s k) _ t.payer t.amount 0 refl
-  core_turn k (core.Deduction t) = entry_turn (in_order s k) _ t.payer 0 t.amount refl
-  core_turn k (core.ExtraReference t) = calm (class.Core k (Ok (core.ExtraReference t))) ps h (tt, (tt, tt))
-  core_turn k (core.NegativeReference t) = calm (class.Core k (Ok (core.NegativeReference t))) ps h (tt, (tt, tt))
-  core_turn k core.Information = calm (class.Core k (Ok core.Information)) ps h (tt, (tt, tt))
-  core_turn k core.Name = calm (class.Core k (Ok core.Name)) ps h (tt, tt)
-  core_turn k core.AddressOne = calm (class.Core k (Ok core.AddressOne)) ps h (tt, tt)
-  core_turn k core.AddressTwo = calm (class.Core k (Ok core.AddressTwo)) ps h (tt, tt)
-  core_turn k (core.CompanyNumber n) = calm (class.Core k (Ok (core.CompanyNumber n))) ps h (tt, tt)
-  core_turn k (core.End e) = calm (class.Core k (Ok (core.End e))) ps h (tt, (tt, tt))
+  abbrev payers_of : List (List ℕ) → ℕ
+  payers_of b = distinct eqb (payers_from [] b)
 
-  read_turn : (k : Kind) (text : List ℕ) (read : Result Core Field)
-      → Turn rows (payers_read ps (then read (λ c. Ok (leaf c text)))) (step (judging rows) s (class.Core k read)) (step (judging (suc rows)) s (class.Core k read))
-  read_turn k text (Ok c) = core_turn k c
-  read_turn k text (Err f) = calm (class.Core k (Err f)) ps h (tt, (tt, tt))
+  full : (b a : List (List ℕ)) (o : Option Slot) → View b a o → Wrong mode m b o cause.NoPlace → rows < payers_of a
+  full _ _ _ (there b r) (inl x) = let z = x.0 in let y : ◌≡◌ {A = ℕ} 0 1 = cc in absurd (omega arith)
+  full _ _ _ (there b r) (inr x) = subst (λ p. rows < distinct eqb p) (sym (payers_more [] b r)) (crowd_step rows b r x.0 x.1 x.2)
+  full _ _ _ (ends b) x = let z = x.0 in let y : ◌≡◌ {A = ℕ} 0 1 = cc in absurd (omega arith)
+  full _ _ _ (breaks b) (inl x) = let y : ◌≡◌ {A = ℕ} 0 1 = cc in absurd (omega arith)
+  full _ _ _ (breaks b) (inr x) = let z = x.0 in let y : ◌≡◌ {A = ℕ} 0 1 = cc in absurd (omega arith)
 
-  module _ (m : Meaning) (r : List ℕ) where
-    by_kind : (o : Option Kind) (a b : Result State Cause) → kind_at r ≡ o → Turn rows (payers_by ps o r) a b → Turn rows (payers_by ps (kind_at r) r) a b
-    by_kind o a b is t = subst (λ x. Turn rows (payers_by ps x r) a b) (sym is) t
+  too_full : (b a : List (List ℕ)) (o : Option Slot) → View b a o → payers_of b ≤ rows → rows < payers_of a → Wrong mode m b o cause.NoPlace
+  too_full _ _ _ (there b r) le l = inr (step_crowds rows b r (payers_by (payers_from [] b) (kind_at r) r) (step_by (payers_from [] b) r (kind_at r) refl) le (subst (λ p. rows < distinct eqb p) (payers_more [] b r) l))
+  too_full _ _ _ (ends b) le l = absurd (omega (arith, le, l))
+  too_full _ _ _ (breaks b) le l = absurd (omega (arith, le, l))
 
-    class_turn : (c : Class) → Seen m r c → Turn rows (payers_by ps (kind_at r) r) (step (judging rows) s c) (step (judging (suc rows)) s c)
-    class_turn _ (Seen.bad e) = stopped _ tt
-    class_turn _ (Seen.core c k e is l) = by_kind (Some k) _ _ is (read_turn k (between 2 (used k) r) (read_core k (between 2 (length r) r)))
-    class_turn _ (Seen.rider c v e is l) = by_kind None _ _ is (calm (class.Rider (record { code = c; level = v; formed = m.formed c r })) ps h (tt, (tt, (tt, tt))))
-    class_turn _ (Seen.unknown c e is l) = by_kind None _ _ is (calm class.Unknown ps h (tt, tt))
+  none_behind : (b a : List (List ℕ)) (o : Option Slot) → View b a o → Wrong mode m b o cause.NoPlace → (d : Cause) → 9 < rank d → Wrong mode m b o d → ⊥
+  none_behind _ _ _ (there b r) (inl x) d l y = let z = x.0 in let y : ◌≡◌ {A = ℕ} 0 1 = cc in absurd (omega arith)
+  none_behind _ _ _ (there b r) (inr x) d l (inl y) = omega (arith, ap rank y.0)
+  none_behind _ _ _ (there b r) (inr x) d l (inr y) = alone rows b r m x.0 x.1 x.2 d l y
+  none_behind _ _ _ (ends b) x d l y = let z = x.0 in let y : ◌≡◌ {A = ℕ} 0 1 = cc in absurd (omega arith)
+  none_behind _ _ _ (breaks b) (inl x) d l y = let y : ◌≡◌ {A = ℕ} 0 1 = cc in absurd (omega arith)
+  none_behind _ _ _ (breaks b) (inr x) d l y = let z = x.0 in let y : ◌≡◌ {A = ℕ} 0 1 = cc in absurd (omega arith)
 
--- All slots before both judges.
+  module _ (bs : List ℕ) where
+    abbrev ss : List Slot
+    ss = slots bs
 
--- how many distinct payers the open section has behind the first k of these slots, where ps came before them
-abbrev behind : List ℕ → List Slot → ℕ → ℕ
-behind ps ss k = distinct eqb (payers_from ps (take k (front ss)))
+    -- from the first wrong thing
+    module _ (k : ℕ) (w : FirstWrong mode m ss k cause.NoPlace) where
+      enough : (j : ℕ) → j < suc k → payers_of (take j (front ss)) ≤ rows
+      enough zero l = omega arith
+      enough (suc j) l =
+          let before = enough j (omega arith) in
+          let not : rows < payers_of (take (suc j) (front ss)) → ⊥ = λ h. w.none_before j cause.NoPlace (omega arith) (too_full _ _ _ (view ss j) before h) in
+          omega arith
 
--- a bound on one count and on those behind it
-from_first : (count : ℕ → ℕ) (rows i : ℕ) → count 0 ≤ rows → ((k : ℕ) → k < i → count (suc k) ≤ rows) → (k : ℕ) → k < suc i → count k ≤ rows
-from_first count rows i z h zero l = z
-from_first count rows i z h (suc k) l = h k (omega arith)
+      else_none : (j : ℕ) (d : Cause) → j < suc k → WrongAt mode m ss j d → d ≡ cause.NoPlace
+      else_none j d l x =
+          let before : j < k → ⊥ = λ h. w.none_before j d h x in
+          let at : j ≡ k = omega arith in
+          let y : WrongAt mode m ss k d = subst (λ i. WrongAt mode m ss i d) at x in
+          let low : rank d < 9 → ⊥ = λ h. w.none_earlier d h y in
+          let high : 9 < rank d → ⊥ = λ h. none_behind _ _ _ (view ss k) w.wrong d h y in
+          same_cause d cause.NoPlace (omega arith) (λ f g p q. let y : ◌≡◌ {A = ℕ} 0 1 = cc in absurd (omega arith))
 
-fault_parts : (j n : ℕ) (c d : Cause) → ◌≡◌ {A = Result End FileFault} (at_record j c) (at_record n d) → (j ≡ n) × (c ≡ d)
-fault_parts j n c d e =
-    let q : ◌≡◌ {A = FileFault} (record { number = j; cause = c }) (record { number = n; cause = d }) = cc in
-    (ap (λ (f : FileFault). f.number) q, ap (λ (f : FileFault). f.cause) q)
+      too_short : TooShort rows m bs (suc k)
+      too_short = record { fewer = full _ _ _ (view ss k) w.wrong; enough = enough; nothing_else = else_none }
 
-module _ (rows n : ℕ) where
-  -- the table is too short at slot i, whose record has number n, where b is the answer with one row more
-  abbrev Short : List ℕ → List Slot → ℕ → Result End FileFault → Type 0
-  Short ps ss i b = (rows < behind ps ss (suc i)) × ((k : ℕ) → k < suc i → behind ps ss k ≤ rows) × NotBefore (suc n) b
+    first_of : (k : ℕ) → TooShort rows m bs (suc k) → FirstWrong mode m ss k cause.NoPlace
+    first_of k t = record {
+      wrong = too_full _ _ _ (view ss k) (t.enough k (omega arith)) t.fewer;
+      none_before = λ j d l x.
+          let is = t.nothing_else j d (omega arith) x in
+          let more = full _ _ _ (view ss j) (subst (WrongAt mode m ss j) is x) in
+          omega (arith, more, t.enough (suc j) (omega arith));
+      none_earlier = λ d l x. let is = t.nothing_else k d (omega arith) x in omega (arith, ap rank is);
+    }
 
-  -- the answer a is 7 at record n exactly then
-  abbrev Meets : List ℕ → List Slot → ℕ → Result End FileFault → Result End FileFault → Type 0
-  Meets ps ss i a b = Exactly (a ≡ at_record n cause.NoPlace) (Short ps ss i b)
-
-  -- neither holds where both answers refuse record j, which is n or before it, by another cause
-  halted : (j : ℕ) (ps : List ℕ) (ss : List Slot) (i : ℕ) (c : Cause) → n ≡ j + i → Other c → Meets ps ss i (at_record j c) (at_record j c)
-  halted j ps ss i c e o = (λ q. absurd (subst Other (fault_parts j n c cause.NoPlace q).1 o), λ z. absurd (omega (arith, z.2)))
-
-  module _ (m : Meaning) where
-    -- what a judge with a table of so many rows answers behind record j
-    abbrev later : ℕ → List Slot → ℕ → State → Result End FileFault
-    later j ss cap t = judge (judging cap) m (suc j) t ss
-
-    -- a whole record by its turn, where the answers meet behind it
-    module _ (j : ℕ) (ps r : List ℕ) (ss : List Slot) where
-      abbrev next : List ℕ
-      next = payers_by ps (kind_at r) r
-
-      turned : (i : ℕ) (a b : Result State Cause) → n ≡ j + i → distinct eqb ps ≤ rows
-          → ((t : State) (i : ℕ) → Held rows t.section.rows next → n ≡ suc j + i → Meets next ss i (later j ss rows t) (later j ss (suc rows) t))
-          → Turn rows next a b → Meets ps (whole r ∷ ss) i (then_on a j (later j ss rows)) (then_on b j (later j ss (suc rows)))
-      turned zero _ _ e le rest (on t h) = (
-        λ q. absurd (omega (arith, subst (NotBefore (suc j)) q (not-before (judging rows) m ss (suc j) t))),
-        λ z. absurd (omega (arith, z.0, few h)),
-      )
-      turned (suc i) _ _ e le rest (on t h) =
-          let both = rest t i h (omega arith) in (
-            λ q. let z = both.0 q in (z.0, from_first (behind ps (whole r ∷ ss)) rows (suc i) le z.1, z.2),
-            λ z. both.1 (z.0, λ k l. z.1 (suc k) (omega arith), z.2),
-          )
-      turned i _ _ e le rest (stopped c o) = halted j ps (whole r ∷ ss) i c e o
-      turned zero _ _ e le rest (full t l) =
-          let is : j ≡ n = omega arith in (
-            λ q. (
-              l,
-              from_first (behind ps (whole r ∷ ss)) rows 0 le (λ k h. absurd (omega arith)),
-              subst (λ x. NotBefore (suc x) (later j ss (suc rows) t)) is (not-before (judging (suc rows)) m ss (suc j) t),
-            ),
-            λ z. ap (λ x. at_record x cause.NoPlace) is,
-          )
-      turned (suc i) _ _ e le rest (full t l) = (
-        λ q. absurd (omega (arith, (fault_parts j n cause.NoPlace cause.NoPlace q).0)),
-        λ z. absurd (omega (arith, l, z.1 1 (omega arith))),
-      )
-
-    -- from record j on, at a state whose rows are those of the payers ps
-    exact : (ss : List Slot) (j : ℕ) (ps : List ℕ) (s : State) (i : ℕ) → Held rows s.section.rows ps → n ≡ j + i
-        → Meets ps ss i (judge (judging rows) m j s ss) (judge (judging (suc rows)) m j s ss)
-    exact [] j ps s i h e =
-        cond_both (ended s.place) _ _ (λ a. Meets ps [] i a a)
-        (λ d. (λ q. let z : ◌≡◌ {A = ℕ} 0 1 = cc in absurd (omega arith), λ z. absurd (omega (arith, z.0, few h))))
-        (λ d. halted j ps [] i cause.Unfinished e tt)
-    exact (broken ∷ ss) j ps s i h e =
-        cond_both (leb j 50000) _ _ (λ a. Meets ps (broken ∷ ss) i a a)
-        (λ d. halted j ps (broken ∷ ss) i cause.Broken e tt)
-        (λ d. halted j ps (broken ∷ ss) i cause.TooMany e tt)
-    exact (whole r ∷ ss) j ps s i h e =
-        elim (leb j 50000) as (λ v. Meets ps (whole r ∷ ss) i
-        (cond v (then_on (step (judging rows) s (class_of m r)) j (later j ss rows)) (at_record j cause.TooMany))
-        (cond v (then_on (step (judging (suc rows)) s (class_of m r)) j (later j ss (suc rows))) (at_record j cause.TooMany))) [
-          | true ↦ turned j ps r ss i _ _ e (few h) (exact ss (suc j) (payers_by ps (kind_at r) r)) (class_turn rows s ps h m r (class_of m r) (seen m r))
-          | false ↦ halted j ps (whole r ∷ ss) i cause.TooMany e tt
-        ]
-
-pub seven : (rows : ℕ) (m : Meaning) (bs : List ℕ) (n : ℕ) → Exactly (check_of (judging rows) m bs ≡ at_record n cause.NoPlace) (TooShort rows m bs n)
-seven rows m bs zero = (λ e. absurd (omega (arith, (number_within (judging rows) m bs _ e).0)), λ z. absurd (omega (arith, z.fewer)))
-seven rows m bs (suc i) =
-    let both = exact rows (suc i) m (slots bs) 1 [] begin i (none-held rows) (omega arith) in (
-      λ e. let z = both.0 e in record { fewer = z.0; enough = z.1; nothing_else = z.2 },
-      λ z. both.1 (z.fewer, z.enough, z.nothing_else),
-    )
+    pub seven : (n : ℕ) → Exactly (check_of mode m bs ≡ at_record n cause.NoPlace) (TooShort rows m bs n)
+    seven zero = (λ e. absurd (omega (arith, (number_within mode m bs _ e).0)), λ t. absurd (omega (arith, t.fewer)))
+    seven (suc k) = (λ e. too_short k ((first_wrong mode m ss k cause.NoPlace).0 e), λ t. (first_wrong mode m ss k cause.NoPlace).1 (first_of k t))

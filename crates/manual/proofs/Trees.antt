@@ -4,7 +4,7 @@ use Rattle.manual.specs.declared.places.Stage.{Stage}
 use Rattle.manual.specs.declared.places.Stage.TheVariants as stage
 use Rattle.manual.specs.declared.places.Place.TheVariants as place
 use Rattle.manual.specs.Judging.{Item as OpenItem, may_follow}
-use Rattle.manual.specs.Manual.{Read, Extra, Item, Section, Reading}
+use Rattle.manual.specs.Manual.{Read, Extra, Item, Section, Tree}
 use Rattle.manual.proofs.Roles.{Part, extra, info, name, address1, address2, company, Role, start, opening, head, part, deposit, end, part_kind, stage_after, part-tests, item-part}
 use Rattle.manual.proofs.Steps.{Passes}
 
@@ -39,7 +39,7 @@ abbrev pub sections_roles : List Section → List Role → List Role
 sections_roles [] rest = rest
 sections_roles (s ∷ ss) rest = opening s.opening ∷ items_roles s.items (deposit s.deposit ∷ sections_roles ss rest)
 
-abbrev pub roles : Reading → List Role
+abbrev pub roles : Tree → List Role
 roles r = start r.start ∷ sections_roles r.sections (end r.end ∷ [])
 
 -- an item may end at any stage but behind address 1
@@ -55,3 +55,12 @@ Closed stage.CompanyNumber = Unit {0}
 abbrev pub Parts-run : Stage → OpenItem → List Part → Type 0
 Parts-run st i [] = Closed st
 Parts-run st i (p ∷ ps) = (may_follow (place.Within st) (part_kind p) ≡ true) × Passes (part-tests i p) × Parts-run (stage_after p) (item-part i p) ps
+
+-- they come in order, whatever their contents
+abbrev pub Ordered : Stage → List Part → Type 0
+Ordered st [] = Closed st
+Ordered st (p ∷ ps) = (may_follow (place.Within st) (part_kind p) ≡ true) × Ordered (stage_after p) ps
+
+pub run_ordered : (st : Stage) (i : OpenItem) (ps : List Part) → Parts-run st i ps → Ordered st ps
+run_ordered st i [] h = h
+run_ordered st i (p ∷ ps) h = (h.0, run_ordered (stage_after p) (item-part i p) ps h.2)

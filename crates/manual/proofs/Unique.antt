@@ -4,7 +4,7 @@ use Rattle.record.specs.declared.fields.Deposit.{Deposit}
 use Rattle.record.specs.declared.fields.End.{End}
 use Rattle.record.specs.declared.fields.Core.{Core}
 use Rattle.record.specs.declared.fields.Core.TheVariants as core
-use Rattle.manual.specs.Manual.{Read, Item, Section, Reading, leaf, name_then, addresses_then, company_then, items_then, sections_then, leaves, total, one_payment, one_deduction}
+use Rattle.manual.specs.Manual.{Read, Item, Section, Tree, leaf, name_then, addresses_then, company_then, items_then, sections_then, leaves, total, one_payment, one_deduction}
 use Rattle.manual.proofs.Roles.{Part, extra, info, name, address1, address2, company, Role, start, opening, head, part, deposit, end, role_of, role, leaf_of_part, leaf_of, is-payment, is_deduction, extra_part, is_extra, is-deposit}
 use Rattle.manual.proofs.Trees.{company_parts, address_parts, name_parts, written, parts_then, items_roles, sections_roles, roles}
 use Rattle.manual.proofs.Parts.{read, item_of, read-written}
@@ -69,7 +69,7 @@ leaves-sections : (ss : List Section) (ls : List Role) → map leaf_of (sections
 leaves-sections [] ls = refl
 leaves-sections (s ∷ ss) ls = simp (leaves-items, leaves-sections ss ls)
 
-pub leaves_roles : (r : Reading) → leaves r ≡ map leaf_of (roles r)
+pub leaves_roles : (r : Tree) → leaves r ≡ map leaf_of (roles r)
 leaves_roles r = ap (λ l. leaf_of (start r.start) ∷ l) (sym (leaves-sections r.sections (end r.end ∷ [])))
 
 -- ONE READING. Roles in order are of one tree.
@@ -122,13 +122,13 @@ same-sections (s ∷ ss) (t ∷ ts) e f q =
     ((λ x. record { opening = o x; items = u.0 x; deposit = u.1 x } ∷ v.0 x), v.1)
 
 -- so a reading is known by its roles, and by its leaves
-pub same_roles : (r q : Reading) → roles r ≡ roles q → r ≡ q
+pub same_roles : (r q : Tree) → roles r ≡ roles q → r ≡ q
 same_roles r q e =
     let a : r.start ≡ q.start = cc in
     let u = same-sections r.sections q.sections r.end q.end (cc) in
     λ x. record { start = a x; sections = u.0 x; end = u.1 x }
 
-pub same-leaves : (r q : Reading) → leaves r ≡ leaves q → r ≡ q
+pub same-leaves : (r q : Tree) → leaves r ≡ leaves q → r ≡ q
 same-leaves r q e = same_roles r q (sym (back (roles r)) ∙ ap (map role) (sym (leaves_roles r) ∙ e ∙ leaves_roles q) ∙ back (roles q))
   where
     back : (ls : List Role) → map role (map leaf_of ls) ≡ ls
@@ -148,14 +148,14 @@ module _ (f : Role → ℕ) (in_Item : Item → ℕ)
   tally_items [] ls = omega arith
   tally_items (i ∷ is) ls = omega (arith, tally_parts f (written i) (items_roles is ls), each_item i, tally_items is ls)
 
-  tally : (in-section : Section → ℕ) → ((s : Section) → f (opening s.opening) + total in_Item s.items + f (deposit s.deposit) ≡ in-section s)
+  pub tally : (in-section : Section → ℕ) → ((s : Section) → f (opening s.opening) + total in_Item s.items + f (deposit s.deposit) ≡ in-section s)
       → (e : Read End) → f (end e) ≡ 0 → (ss : List Section) → total f (sections_roles ss (end e ∷ [])) ≡ total in-section ss
   tally in-section each e z [] = omega arith
   tally in-section each e z (s ∷ ss) =
       omega (arith, tally_items s.items (deposit s.deposit ∷ sections_roles ss (end e ∷ [])), each s, tally in-section each e z ss)
 
 -- elements that count alike
-all_alike : {A : Type 0} (d : ℕ) (xs : List A) → total (λ x. d) xs ≡ length xs * d
+pub all_alike : {A : Type 0} (d : ℕ) (xs : List A) → total (λ x. d) xs ≡ length xs * d
 all_alike d [] = omega arith
 all_alike d (x ∷ xs) = omega (arith, all_alike d xs)
 

@@ -28,12 +28,8 @@ use Rattle.manual.specs.declared.places.Stage.{Stage}
 use Rattle.manual.specs.declared.places.Stage.TheVariants as stage
 use Rattle.manual.specs.declared.places.Place.{Place}
 use Rattle.manual.specs.declared.places.Place.TheVariants as place
+pub use Rattle.manual.specs.Modes.{Mode}
 use Rattle.manual.specs.Slots.{Slot, whole, broken, slots}
-
--- whether payers are judged, and how many rows the table for them has
-pub record Mode : Type 0 where
-  pub judged : Bool
-  pub cap : ℕ
 
 -- the section that is open: its currency, its payment and deduction records, its payments, what both come to, its payers
 pub record Section : Type 0 where

@@ -1,5 +1,5 @@
 -- What holds of checking any file, under any edition and with any table: laws above the judging machine.
-use Rattle.std.specs.Prelude.{◌≡◌, ℕ, ◌+◌, ◌≤◌, Bool, true, false, ◌⊎◌, List, [], ◌∷◌, Some, Ok, Err, Result}
+use Rattle.std.specs.Prelude.{◌≡◌, ℕ, ◌+◌, ◌≤◌, Bool, true, false, ◌⊎◌, List, [], ◌∷◌, ◌++◌, map, length, take, Some, Ok, Err, Result}
 use Rattle.record.specs.declared.kinds.Kind.{Kind}
 use Rattle.record.specs.declared.fields.End.{End}
 use Rattle.record.specs.declared.classes.Rider.{Rider}
@@ -10,9 +10,9 @@ use Rattle.record.specs.Laws.{kind_at}
 use Rattle.manual.specs.declared.faults.Cause.{Cause}
 use Rattle.manual.specs.declared.faults.Cause.TheVariants as cause
 use Rattle.manual.specs.declared.faults.FileFault.{FileFault}
-use Rattle.manual.specs.Slots.{slots, wholes}
+use Rattle.manual.specs.Slots.{whole, broken, slots, wholes}
 use Rattle.manual.specs.Judging.{Mode, State, step, check_of}
-use Rattle.manual.specs.Manual.{Line, laid}
+use Rattle.manual.specs.Manual.{Line, laid, records}
 
 -- 13 and 14
 abbrev pub of_riders : Cause → Bool
@@ -87,3 +87,17 @@ pub record CheckLaws : Type 0 where
       ⊎ ((f : FileFault) × (check_of (judging cap) m bs ≡ Err f) × (of_payers f.cause ≡ true) × NotBefore f.number (check_of not_judging m bs))
   -- a refusal names a record from 1 to one past the whole records at the file's front
   pub number_within : (mode : Mode) (m : Meaning) (bs : List ℕ) (f : FileFault) → check_of mode m bs ≡ Err f → (1 ≤ f.number) × (f.number ≤ wholes (slots bs) + 1)
+  -- a refusal at record n depends on the first n records alone: bytes that begin with the same n lines have the same refusal
+  pub first_lines : (mode : Mode) (m : Meaning) (ls : List Line) (rest other : List ℕ) (f : FileFault) → f.number ≤ length ls
+      → check_of mode m (laid ls rest) ≡ Err f → check_of mode m (laid ls other) ≡ Err f
+  -- where record n is right behind the lines that are the same, whole or not or missing, it depends on the bytes of one more line:
+  -- no line has more than 82
+  pub next_line : (mode : Mode) (m : Meaning) (ls : List Line) (rest other : List ℕ) (f : FileFault) → f.number ≤ length ls + 1
+      → take 82 rest ≡ take 82 other → check_of mode m (laid ls rest) ≡ Err f → check_of mode m (laid ls other) ≡ Err f
+  -- so where a longer file is accepted, none that begins with the same lines is refused at one of them
+  pub none_hidden : (mode : Mode) (m : Meaning) (ls : List Line) (rest other : List ℕ) (e : End)
+      → check_of mode m (laid ls other) ≡ Ok e → NotBefore (length ls + 1) (check_of mode m (laid ls rest))
+  -- the records that are judged are those of the lines at the front of the bytes
+  pub cut_at_lines : (ls : List Line) (rest : List ℕ) → slots (laid ls rest) ≡ map whole (records ls) ++ slots rest
+  -- and bytes that are left are no whole record exactly where they begin with no line
+  pub line_or_none : (b : ℕ) (bs : List ℕ) → (slots (b ∷ bs) ≡ broken ∷ []) ⊎ ((l : Line) × (rest : List ℕ) × (b ∷ bs ≡ laid (l ∷ []) rest))

@@ -1,5 +1,8 @@
 pub mod Refusals
 pub mod Slots
+pub mod Modes
+pub mod Payers
+pub mod Wrong
 pub mod Judging
 pub mod Manual
 pub mod Laws

@@ -1,5 +1,5 @@
--- The manual: how a file reads, and which files are right. Nothing here runs: `Follows` at the end has a field for each rule.
-use Rattle.std.specs.Prelude.{◌≡◌, ℕ, ◌+◌, ◌<◌, ◌≤◌, Bool, true, cond, List, [], ◌∷◌, ◌++◌, map, length, is_some, Some, None, Ok, Option, Result, ◌==◌}
+-- The manual: how a file reads, and which files are right. Nothing here runs: `ReadAs` and `Follows` at the end have a field for each rule.
+use Rattle.std.specs.Prelude.{◌≡◌, ℕ, suc, ◌+◌, ◌<◌, ◌≤◌, Bool, true, false, cond, List, [], ◌∷◌, ◌++◌, map, length, is_some, Some, None, Ok, Option, Result, ◌==◌}
 use Rattle.std.specs.List.{between, AllByRecursion}
 use Rattle.field.specs.Chains.{then, and_then}
 use Rattle.record.specs.declared.kinds.Kind.{Kind}
@@ -19,7 +19,7 @@ use Rattle.record.specs.declared.editions.Level.TheVariants as level
 use Rattle.record.specs.Editions.{Meaning, Whole}
 use Rattle.record.specs.Layouts.{read_core}
 use Rattle.record.specs.Reserve.{used}
-use Rattle.record.specs.Classes.{code_in}
+use Rattle.record.specs.Codes.{code_in}
 use Rattle.record.specs.Laws.{kind_at}
 
 -- LINES. A file is a run of whole records, each 80 text bytes and a line end.
@@ -44,7 +44,7 @@ laid (l ∷ ls) rest = l.bytes ++ (end_bytes l.ending ++ laid ls rest)
 abbrev pub records : List Line → List (List ℕ)
 records ls = map (λ (l : Line). l.bytes) ls
 
--- THE READING of a file: a tree. It has no record numbers, no reserve positions and no unknown records; riders stand beside it.
+-- THE READING of a file: a tree of its core records, and its riders. It has no record numbers, no reserve positions and no unknown records.
 
 -- a record in the tree: its fields, and the positions that its layout names behind the code, as they stand in the file
 pub record Read (A : Type 0) : Type 0 where
@@ -72,11 +72,21 @@ pub record Section : Type 0 where
   pub items : List Item
   pub deposit : Read Deposit
 
--- a file: a start record, sections, an end record
-pub record Reading : Type 0 where
+-- the core records of a file: a start record, sections, an end record
+pub record Tree : Type 0 where
   pub start : Read Start
   pub sections : List Section
   pub end : Read End
+
+-- a rider in its place: behind so many leaves of the tree, with its bytes as they stand
+pub record RiderAt : Type 0 where
+  pub behind : ℕ
+  pub bytes : List ℕ
+
+-- a file: its tree, and its riders in order
+pub record Reading : Type 0 where
+  pub tree : Tree
+  pub riders : List RiderAt
 
 -- THE LEAVES of the tree: the core records in their order, each part before what follows it.
 
@@ -113,7 +123,7 @@ sections_then (s ∷ ss) rest =
     leaf (core.Opening s.opening.fields) s.opening.text
     ∷ items_then s.items (leaf (core.Deposit s.deposit.fields) s.deposit.text ∷ sections_then ss rest)
 
-abbrev pub leaves : Reading → List (Read Core)
+abbrev pub leaves : Tree → List (Read Core)
 leaves r = leaf (core.Start r.start.fields) r.start.text ∷ sections_then r.sections (leaf (core.End r.end.fields) r.end.text ∷ [])
 
 -- SUMS over the items of a section, and over the sections of a file.
@@ -158,19 +168,25 @@ pub record ItemStands (i : Item) : Type 0 where
   -- at most 99 information records
   pub at_most_99 : length i.information ≤ 99
 
-pub record SectionStands (s : Section) : Type 0 where
+-- the rules of a section but for the one on payers
+pub record SectionAdds (s : Section) : Type 0 where
   -- each item is right
   pub each_item : AllByRecursion ItemStands s.items
   -- at least one of them is a payment
   pub some_payment : 0 < total one_payment s.items
-  -- every payer number has payments of at least its deductions
-  pub none_owes : (p : ℕ) → total (deducted_by p) s.items ≤ total (paid_by p) s.items
   -- the deposit has the currency of the opening record
   pub same_currency : s.deposit.fields.currency ≡ s.opening.fields.currency
   -- the number of payment and deduction records
   pub count : s.deposit.fields.count ≡ length s.items
   -- and payments less deductions: its sum and the deductions make up the payments
   pub sum : s.deposit.fields.sum + total deducted s.items ≡ total paid s.items
+
+-- all the rules of a section
+pub record SectionStands (s : Section) : Type 0 where
+  -- those
+  pub adds : SectionAdds s
+  -- and every payer number has payments of at least its deductions
+  pub none_owes : (p : ℕ) → total (deducted_by p) s.items ≤ total (paid_by p) s.items
 
 pub record CountsStand (ss : List Section) (e : End) : Type 0 where
   -- the end record counts the file's payments
@@ -229,6 +245,28 @@ level_after kind.AddressTwo = Some level.Item
 level_after kind.CompanyNumber = Some level.Item
 level_after kind.End = None
 
+-- whether a record is a rider: its code is known to the edition
+abbrev pub is_rider : Meaning → List ℕ → Bool
+is_rider m r = is_some (and_then (code_in r) m.level)
+
+-- a record in front of the riders behind it, if it is one; so many core records stand before it
+abbrev pub rider_then : Bool → ℕ → List ℕ → List RiderAt → List RiderAt
+rider_then true n r rest = record { behind = n; bytes = r } ∷ rest
+rider_then false n r rest = rest
+
+-- so many core records, and this one if it is one
+abbrev pub with_core : Option Kind → ℕ → ℕ
+with_core None n = n
+with_core (Some k) n = suc n
+
+-- the riders in order, each as it stands, behind as many core records as stand before it; so many stand before the first record
+abbrev pub riders_from : Meaning → ℕ → List (List ℕ) → List RiderAt
+riders_from m n [] = []
+riders_from m n (r ∷ rs) = rider_then (is_rider m r) n r (riders_from m (with_core (kind_at r) n) rs)
+
+abbrev pub riders_of : Meaning → List (List ℕ) → List RiderAt
+riders_of m rs = riders_from m 0 rs
+
 -- a record of a code that the edition knows, with this level, behind these records
 pub record RiderStands (m : Meaning) (c : ℕ) (l : Level) (before : List (List ℕ)) (r : List ℕ) : Type 0 where
   -- it stands where its level says
@@ -236,25 +274,32 @@ pub record RiderStands (m : Meaning) (c : ℕ) (l : Level) (before : List (List 
   -- and is well formed
   pub formed : m.formed c r ≡ true
 
+-- THE RECORDS: they have this tree under an edition with this meaning, where each section keeps these rules.
+pub record ReadAs (rules : Section → Type 0) (m : Meaning) (rs : List (List ℕ)) (t : Tree) : Type 0 where
+  -- at most 50,000
+  pub few : length rs ≤ 50000
+  -- every code is two digits
+  pub coded : AllByRecursion (λ x. is_some (code_in x) ≡ true) rs
+  -- the first record is the start
+  pub starts : first_kind rs ≡ Some kind.Start
+  -- the core records in order, read by their layouts, are the leaves of the tree in order
+  pub read : cores rs ≡ map Ok (leaves t)
+  -- at least one section
+  pub some_section : 0 < length t.sections
+  -- each section is right
+  pub each_section : AllByRecursion rules t.sections
+  -- the end record has the file's counts
+  pub counted : CountsStand t.sections t.end.fields
+  -- each rider stands where its level says and is well formed, none behind the end; unknown records may stand anywhere
+  pub riders : (before behind : List (List ℕ)) (x : List ℕ) (c : ℕ) (l : Level) → rs ≡ before ++ x ∷ behind
+      → code_in x ≡ Some c → m.level c ≡ Some l → RiderStands m c l before x
+
 -- THE MANUAL: these bytes have this reading under an edition with this meaning.
 pub record Follows (m : Meaning) (bytes : List ℕ) (r : Reading) : Type 0 where
   pub lines : List Line
   -- the bytes are lines of whole records
   pub whole : bytes ≡ laid lines []
-  -- at most 50,000
-  pub few : length lines ≤ 50000
-  -- every code is two digits
-  pub coded : AllByRecursion (λ x. is_some (code_in x) ≡ true) (records lines)
-  -- the first record is the start
-  pub starts : first_kind (records lines) ≡ Some kind.Start
-  -- the core records in order, read by their layouts, are the leaves of the tree in order
-  pub read : cores (records lines) ≡ map Ok (leaves r)
-  -- at least one section
-  pub some_section : 0 < length r.sections
-  -- each section is right
-  pub each_section : AllByRecursion SectionStands r.sections
-  -- the end record has the file's counts
-  pub counted : CountsStand r.sections r.end.fields
-  -- each rider stands where its level says and is well formed, none behind the end; unknown records may stand anywhere
-  pub riders : (before behind : List (List ℕ)) (x : List ℕ) (c : ℕ) (l : Level) → records lines ≡ before ++ x ∷ behind
-      → code_in x ≡ Some c → m.level c ≡ Some l → RiderStands m c l before x
+  -- which have its tree, by all the rules
+  pub reads : ReadAs SectionStands m (records lines) r.tree
+  -- and its riders
+  pub ridden : riders_of m (records lines) ≡ r.riders

@@ -28,3 +28,9 @@ abbrev pub wholes : List Slot → ℕ
 wholes [] = 0
 wholes (whole r ∷ ss) = suc (wholes ss)
 wholes (broken ∷ ss) = 0
+
+-- the whole records at the front of a file
+abbrev pub front : List Slot → List (List ℕ)
+front [] = []
+front (whole r ∷ ss) = r ∷ front ss
+front (broken ∷ ss) = []

@@ -1,9 +1,9 @@
 ghost use Rattle.std.specs.Prelude.{◌≡◌};
 ghost use Rattle.manual.specs.declared.faults.Cause.TheVariants.{Unreadable, NoPlace};
-ghost use Rattle.manual.specs.Refusals.{file_refusal};
+ghost use Rattle.manual.specs.Refusals.{reason_of, told_of, file_refusal};
 
 use record::RecordFault;
-use refusal::{Layer, Place, Reason, Refusal};
+use refusal::{FileRefusal, Reason, Refusal};
 use sums::NoRow;
 
 // Why a file is refused at a record.
@@ -58,13 +58,13 @@ pub struct FileFault {
     pub cause: Cause,
 }
 
-// What the refusal tells.
-impl From<FileFault> for Refusal {
-    ghost from_gives = { λ fault r. r ≡ file_refusal fault };
+// Why the file is refused, as every refusal tells it.
+impl From<Cause> for Reason {
+    ghost from_gives = { λ cause r. r ≡ reason_of cause };
 
-    fn from(fault: FileFault) -> Refusal {
-        let reason = match fault.cause {
-            Cause::Unreadable(e) => return record::refusal(e, fault.number),
+    fn from(cause: Cause) -> Reason {
+        match cause {
+            Cause::Unreadable(e) => Reason::from(e),
             Cause::Broken => Reason::BrokenRecord,
             Cause::Order => Reason::OutOfOrder,
             Cause::UnlikeItem => Reason::UnlikeItem,
@@ -77,11 +77,26 @@ impl From<FileFault> for Refusal {
             Cause::Unfinished => Reason::Unfinished,
             Cause::RiderIllFormed => Reason::RiderIllFormed,
             Cause::RiderLevel => Reason::RiderAtWrongLevel,
-        };
-        Refusal {
-            reason,
-            layer: Layer::File,
-            place: Some(Place::Record(fault.number)),
         }
+    }
+}
+
+// What the refusal tells: why, and at which record.
+impl From<FileFault> for FileRefusal {
+    ghost from_gives = { λ fault r. r ≡ told_of fault };
+
+    fn from(fault: FileFault) -> FileRefusal {
+        FileRefusal {
+            reason: Reason::from(fault.cause),
+            at: fault.number,
+        }
+    }
+}
+
+impl From<FileFault> for Refusal {
+    ghost from_gives = { λ fault r. r ≡ file_refusal fault };
+
+    fn from(fault: FileFault) -> Refusal {
+        Refusal::from(FileRefusal::from(fault))
     }
 }

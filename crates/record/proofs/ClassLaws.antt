@@ -11,7 +11,8 @@ use Rattle.record.specs.Kinds.{kind_of}
 use Rattle.record.specs.Layouts.{read_core}
 use Rattle.record.specs.Reserve.{used, Refilled}
 use Rattle.record.specs.Editions.{Meaning, Whole, Extends, known}
-use Rattle.record.specs.Classes.{code_at, code_in, class_of, class_by, class_in, outside, by_level}
+use Rattle.record.specs.Codes.{code_at, code_in}
+use Rattle.record.specs.Classes.{class_of, class_by, class_in, outside, by_level}
 use Rattle.record.specs.Laws.{kind_at, ClassLaws}
 use Rattle.record.proofs.Fronts.{front}
 use Rattle.record.proofs.Refilling.{whole_set, kept, names_code, blanking}
@@ -82,7 +83,7 @@ by_kind_extends more less c (Some k) line e = refl
 extends : (more less : Meaning) → Extends more less → (c : ℕ) → known (less.level c) ≡ true → (line : List ℕ) → Whole line → code_in line ≡ Some c → class_of more line ≡ class_of less line
 extends more less x c h line w e =
     let alike = x c h in
-    let out : outside more c line ≡ outside less c line = ap (λ l. by_level l c (more.formed c line)) alike.0 ∙ ap (by_level (less.level c) c) (alike.1 line w) in
+    let out : outside more c line ≡ outside less c line = ap (λ l. by_level l c (more.formed c line)) alike.0 ∙ ap (by_level (less.level c) c) (alike.1 line w e) in
     ap (λ o. class_in more o line) e ∙ by_kind_extends more less c (kind_of c) line out ∙ sym (ap (λ o. class_in less o line) e)
 
 pub laws : ClassLaws

@@ -2,3 +2,4 @@ pub mod Cutting
 pub mod Fronts
 pub mod Refilling
 pub mod ClassLaws
+pub mod Sorted

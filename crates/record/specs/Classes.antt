@@ -1,22 +1,14 @@
 -- The class of a record: all that is ever asked of it.
-use Rattle.std.specs.Prelude.{ℕ, ◌+◌, ◌-◌, ◌*◌, Bool, cond, ◌&&◌, List, length, Some, None, Option, slice_index}
+use Rattle.std.specs.Prelude.{ℕ, Bool, List, length, Some, None, Option}
 use Rattle.std.specs.List.{between}
-use Rattle.field.specs.Bytes.{is_digit}
 use Rattle.record.specs.declared.kinds.Kind.{Kind}
 use Rattle.record.specs.declared.editions.Level.{Level}
 use Rattle.record.specs.declared.classes.Class.{Class}
 use Rattle.record.specs.declared.classes.Class.TheVariants.{BadCode, Core, Rider, Unknown}
 use Rattle.record.specs.Kinds.{kind_of}
+use Rattle.record.specs.Codes.{code_in}
 use Rattle.record.specs.Layouts.{read_core}
 use Rattle.record.specs.Editions.{Meaning}
-
--- the code that two bytes write, if both are digits
-abbrev pub code_at : ℕ → ℕ → Option ℕ
-code_at a b = cond (is_digit a && is_digit b) (Some ((a - 48) * 10 + (b - 48))) None
-
--- the code of a record, if it has one
-abbrev pub code_in : List ℕ → Option ℕ
-code_in line = code_at (slice_index line 0) (slice_index line 1)
 
 -- a record of a code with this level, or without one: a rider, or unknown
 abbrev pub by_level : Option Level → ℕ → Bool → Class

@@ -12,6 +12,7 @@ use Rattle.record.specs.declared.editions.Form.{Form}
 use Rattle.record.specs.declared.editions.Form.TheVariants.{Dated, Numbered}
 use Rattle.record.specs.declared.editions.HouseKind.{HouseKind}
 use Rattle.record.specs.Kinds.{code_of}
+use Rattle.record.specs.Codes.{code_in}
 
 -- a code is known where it has a level
 abbrev pub known : Option Level → Bool
@@ -29,11 +30,11 @@ pub record Meaning : Type 0 where
 abbrev pub Whole : List ℕ → Type 0
 Whole line = (length line ≡ 80) × (every is_text line ≡ true)
 
--- one edition extends another: every code known to the other has the same level and the same well-formed records in it
+-- one edition extends another: every code known to the other has the same level, and of the records of that code the same are well formed
 abbrev pub Extends : Meaning → Meaning → Type 0
 Extends more less =
     (c : ℕ) → known (less.level c) ≡ true
-    → (more.level c ≡ less.level c) × ((line : List ℕ) → Whole line → more.formed c line ≡ less.formed c line)
+    → (more.level c ≡ less.level c) × ((line : List ℕ) → Whole line → code_in line ≡ Some c → more.formed c line ≡ less.formed c line)
 
 -- the bare edition knows nothing
 abbrev pub bare : Meaning

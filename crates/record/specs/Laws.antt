@@ -7,7 +7,8 @@ use Rattle.record.specs.declared.classes.Class.TheVariants.{Unknown}
 use Rattle.record.specs.Kinds.{kind_of}
 use Rattle.record.specs.Reserve.{used, Refilled, blanked}
 use Rattle.record.specs.Editions.{Meaning, Whole, Extends, known}
-use Rattle.record.specs.Classes.{code_in, class_of}
+use Rattle.record.specs.Codes.{code_in}
+use Rattle.record.specs.Classes.{class_of}
 
 -- the core kind of a record, by its code
 abbrev pub kind_at : List ℕ → Option Kind

@@ -1,4 +1,5 @@
 pub mod Kinds
+pub mod Codes
 pub mod Layouts
 pub mod Reserve
 pub mod Editions
@@ -7,3 +8,4 @@ pub mod Lines
 pub mod Refusals
 pub mod Rows
 pub mod Laws
+pub mod Sorts

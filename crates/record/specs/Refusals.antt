@@ -1,9 +1,7 @@
--- The refusals of this layer.
-use Rattle.std.specs.Prelude.{ℕ, Some, Ok, Err, Result}
-use Rattle.refusal.specs.declared.Refusal.{Refusal}
+-- Why a record by itself is refused.
+use Rattle.std.specs.Prelude.{Ok, Err, Result}
+use Rattle.refusal.specs.declared.Reason.{Reason}
 use Rattle.refusal.specs.declared.Reason.TheVariants as reason
-use Rattle.refusal.specs.declared.Layer.TheVariants.{File}
-use Rattle.refusal.specs.declared.Place.TheVariants.{Record}
 use Rattle.record.specs.declared.fields.Field.{Field}
 use Rattle.record.specs.declared.fields.Core as fields
 use Rattle.record.specs.declared.classes.Class.{Class}
@@ -11,10 +9,10 @@ use Rattle.record.specs.declared.classes.Class.TheVariants.{BadCode, Core, Rider
 use Rattle.record.specs.declared.faults.RecordFault.{RecordFault}
 use Rattle.record.specs.declared.faults.RecordFault.TheVariants.{Code, Layout}
 
--- reason, layer and place of each refusal; n is the record's number in its file
-abbrev pub refusal_of : ℕ → RecordFault → Refusal
-refusal_of n Code = record { reason = reason.BadCode; layer = File; place = Some (Record n) }
-refusal_of n (Layout f) = record { reason = reason.BadField; layer = File; place = Some (Record n) }
+-- why a record is refused
+abbrev pub reason_of : RecordFault → Reason
+reason_of Code = reason.BadCode
+reason_of (Layout f) = reason.BadField
 
 -- the fields that were read, or the fault of the record
 abbrev pub fields_read : Result fields.Core Field → Result fields.Core RecordFault

@@ -1,6 +1,8 @@
 ghost use Rattle.std.specs.Prelude.{◌≡◌, length};
-ghost use Rattle.record.specs.Classes.{code_at, class_of, outside};
+ghost use Rattle.record.specs.Codes.{code_at};
+ghost use Rattle.record.specs.Classes.{class_of, class_in, outside};
 ghost use Rattle.record.specs.Laws.{ClassLaws};
+ghost use Rattle.record.specs.Sorts.{sort_of};
 
 use crate::editions::{Edition, Level};
 use crate::fields::{Core, Field};
@@ -28,6 +30,17 @@ pub enum Class {
     Unknown,
 }
 
+/// What a record is by its code alone: its class, where its fields are not read.
+#[derive(Clone, Copy, Debug, PartialEq, Eq)]
+pub enum Sort {
+    // its code is not two digits
+    BadCode,
+    Core(Kind),
+    Rider(Rider),
+    // neither core nor known to the edition
+    Unknown,
+}
+
 // The code that two digits write.
 fn code(a: u8, b: u8) -> Option<u8>
     ensures { result ≡ code_at a b }
@@ -39,19 +52,42 @@ fn code(a: u8, b: u8) -> Option<u8>
     }
 }
 
-// The class of a record whose code is not a core code.
-fn beyond<E: Edition>(code: u8, line: &[u8], edition: &E) -> Class
+// The sort of a record whose code is not a core code.
+fn beyond<E: Edition>(code: u8, line: &[u8], edition: &E) -> Sort
     requires { length line.now ≡ 80 }
-    ensures { result ≡ outside (E.meaning edition.now) code line.now }
+    ensures { result ≡ sort_of (outside (E.meaning edition.now) code line.now) }
 {
     match edition.level(code) {
-        None => Class::Unknown,
-        Some(level) => Class::Rider(Rider {
+        None => Sort::Unknown,
+        Some(level) => Sort::Rider(Rider {
             code,
             level,
             formed: edition.is_formed(code, line),
         }),
     }
+}
+
+// The sort of a record of 80 bytes whose code begins with these two.
+fn sort_coded<E: Edition>(a: u8, b: u8, line: &[u8], edition: &E) -> Sort
+    requires { length line.now ≡ 80 }
+    ensures { result ≡ sort_of (class_in (E.meaning edition.now) (code_at a b) line.now) }
+{
+    let Some(code) = code(a, b) else {
+        return Sort::BadCode;
+    };
+    match Kind::try_from(code) {
+        Ok(kind) => Sort::Core(kind),
+        Err(_) => beyond(code, line, edition),
+    }
+}
+
+/// The sort of a record of 80 bytes under an edition: a look at its code, and at its form if it is a rider.
+pub fn sort_in<E: Edition>(line: &[u8], edition: &E) -> Sort
+    requires { length line.now ≡ 80 }
+    ensures { result ≡ sort_of (class_of (E.meaning edition.now) line.now) }
+{
+    let [a, b, ..] = line else { unreachable() };
+    sort_coded(*a, *b, line, edition)
 }
 
 // What holds of all classes, proved once; there is nothing to run.
@@ -71,11 +107,10 @@ pub fn classify<E: Edition>(line: &[u8], edition: &E) -> Class
     let [a, b, rest @ ..] = line else {
         unreachable()
     };
-    let Some(code) = code(*a, *b) else {
-        return Class::BadCode;
-    };
-    match Kind::try_from(code) {
-        Ok(kind) => Class::Core(kind, read_core(kind, rest)),
-        Err(_) => beyond(code, line, edition),
+    match sort_coded(*a, *b, line, edition) {
+        Sort::BadCode => Class::BadCode,
+        Sort::Core(kind) => Class::Core(kind, read_core(kind, rest)),
+        Sort::Rider(rider) => Class::Rider(rider),
+        Sort::Unknown => Class::Unknown,
     }
 }

@@ -1,10 +1,10 @@
 ghost use Rattle.std.specs.Prelude.{◌≡◌};
 ghost use Rattle.record.specs.declared.faults.RecordFault.TheVariants.{Layout};
-ghost use Rattle.record.specs.Refusals.{sound as sound_term, fields_read, refusal_of};
+ghost use Rattle.record.specs.Refusals.{sound as sound_term, fields_read, reason_of};
 
 use crate::classes::Class;
 use crate::fields::{Core, Field};
-use refusal::{Layer, Place, Reason, Refusal};
+use refusal::Reason;
 
 // Why a whole record cannot be read by itself.
 #[derive(Clone, Copy, Debug, PartialEq, Eq)]
@@ -41,16 +41,14 @@ pub fn sound(class: Class) -> Result<Class, RecordFault>
     }
 }
 
-// What the refusal tells, where the record has this number in its file. It is no `From`, since the fault has not the number.
-pub fn refusal(fault: RecordFault, number: usize) -> Refusal
-    ensures { result ≡ refusal_of number fault }
-{
-    Refusal {
-        reason: match fault {
+// Why the record is refused, as every refusal tells it.
+impl From<RecordFault> for Reason {
+    ghost from_gives = { λ fault r. r ≡ reason_of fault };
+
+    fn from(fault: RecordFault) -> Reason {
+        match fault {
             RecordFault::Code => Reason::BadCode,
             RecordFault::Layout(_) => Reason::BadField,
-        },
-        layer: Layer::File,
-        place: Some(Place::Record(number)),
+        }
     }
 }

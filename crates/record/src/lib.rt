@@ -11,9 +11,9 @@ mod lines;
 mod reserve;
 mod rows;
 
-pub use classes::{Class, Rider, classify};
+pub use classes::{Class, Rider, Sort, classify, sort_in};
 pub use editions::{Bare, Edition, House, Level};
-pub use faults::{RecordFault, fields_read, refusal, sound};
+pub use faults::{RecordFault, fields_read, sound};
 pub use fields::{Core, Deposit, DepositType, End, Field, Opening, Start, TestMark, Transfer};
 pub use kinds::{Kind, NotCore};
 pub use layouts::read_core;

@@ -1,2 +1,3 @@
 pub mod Reasons
 pub mod Causes
+pub mod Refusals

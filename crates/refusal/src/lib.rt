@@ -4,6 +4,7 @@
 ghost use Rattle.std.specs.Prelude.{◌≡◌};
 ghost use Rattle.refusal.specs.Causes.{cause_of};
 ghost use Rattle.refusal.specs.Reasons.{number_of, words_of, Names};
+ghost use Rattle.refusal.specs.Refusals.{refusal_of};
 
 use std::error::Error;
 use std::fmt;
@@ -169,7 +170,7 @@ pub enum Layer {
     Volume,
 }
 
-/// Where it was refused.
+/// Where it was refused, or what it would have needed.
 #[derive(Clone, Copy, Debug, PartialEq, Eq)]
 pub enum Place {
     /// A record of the file, counted from 1.
@@ -178,8 +179,21 @@ pub enum Place {
     Count(usize),
     /// A record of the shelf, counted from 1.
     ShelfRecord(usize),
-    /// An entry of the volume, counted from 1.
+    /// An entry of the volume, counted from 1; 0 stands for the closing record.
     Entry(usize),
+    /// A record of an entry, both counted from 1.
+    EntryRecord { entry: usize, at: usize },
+    /// How many rows the caller's table would have needed.
+    Rows(usize),
+    /// How many bytes the caller's buffer would have needed.
+    Bytes(usize),
+}
+
+/// A file's refusal entire: why, and at which record, counted from 1.
+#[derive(Clone, Copy, Debug, PartialEq, Eq)]
+pub struct FileRefusal {
+    pub reason: Reason,
+    pub at: usize,
 }
 
 /// What is told of a refused call.
@@ -189,6 +203,21 @@ pub struct Refusal {
     pub layer: Layer,
     /// None where the whole of what was asked is refused.
     pub place: Option<Place>,
+    /// The file's refusal for which an entry can't be read; none with any other reason.
+    pub within: Option<FileRefusal>,
+}
+
+impl From<FileRefusal> for Refusal {
+    ghost from_gives = { λ file r. r ≡ refusal_of file };
+
+    fn from(file: FileRefusal) -> Refusal {
+        Refusal {
+            reason: file.reason,
+            layer: Layer::File,
+            place: Some(Place::Record(file.at)),
+            within: None,
+        }
+    }
 }
 
 impl Refusal {
@@ -231,7 +260,18 @@ impl fmt::Display for Place {
             Place::Count(n) => write!(f, ", count {n}"),
             Place::ShelfRecord(n) => write!(f, ", shelf record {n}"),
             Place::Entry(n) => write!(f, ", entry {n}"),
+            Place::EntryRecord { entry, at } => write!(f, ", entry {entry}, record {at}"),
+            Place::Rows(n) => write!(f, ", {n} rows needed"),
+            Place::Bytes(n) => write!(f, ", {n} bytes needed"),
         }
+    }
+}
+
+impl fmt::Display for FileRefusal {
+    fn fmt<W: fmt::Write>(&self, f: &mut fmt::Formatter<W>) -> fmt::Result {
+        let FileRefusal { reason, at } = *self;
+        let number = reason.number();
+        write!(f, "{number}, file, record {at}: {reason}")
     }
 }
 
@@ -241,11 +281,16 @@ impl fmt::Display for Refusal {
             reason,
             layer,
             place,
+            within,
         } = *self;
         let number = reason.number();
         match place {
-            Some(place) => write!(f, "{number}, {layer}{place}: {reason}"),
-            None => write!(f, "{number}, {layer}: {reason}"),
+            Some(place) => write!(f, "{number}, {layer}{place}: {reason}")?,
+            None => write!(f, "{number}, {layer}: {reason}")?,
+        }
+        match within {
+            Some(file) => write!(f, ": {file}"),
+            None => Ok(()),
         }
     }
 }

@@ -41,6 +41,7 @@ impl From<ShelfFault> for Refusal {
             reason,
             layer: Layer::Shelf,
             place: Some(place),
+            within: None,
         }
     }
 }

@@ -1,7 +1,7 @@
 -- What the commands at a shelf leave of its records and of its volume, and when they may be said to be done. What they print, and what is in a file that they
 -- read, no term can say.
 use Rattle.std.specs.Prelude.{◌≡◌, ℕ, ◌⊎◌, List, true, is_ok, Result, ⊤}
-use Rattle.manual.specs.Accepting.{front}
+use Rattle.manual.specs.Slots.{front}
 use Rattle.manual.specs.Judging.{check_of}
 use Rattle.manual.specs.Laws.{judging}
 use Rattle.manual.specs.Slots.{slots}

@@ -1,5 +1,5 @@
 -- What is done at a desk: on an open volume the volume's own call, on a closed one nothing.
-use Rattle.std.specs.Prelude.{ℕ, ◌+◌, List, length, Ok, Err, Result}
+use Rattle.std.specs.Prelude.{ℕ, ◌+◌, length, Ok, Err, Result}
 use Rattle.record.specs.declared.fields.End.{End}
 use Rattle.manual.specs.declared.faults.FileFault.{FileFault}
 use Rattle.filing.specs.declared.faults.VolumeFault.{VolumeFault}

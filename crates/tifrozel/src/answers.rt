@@ -2,7 +2,7 @@
 ghost use Rattle.std.specs.Prelude.{◌≡◌, false, is_ok, IfOk, Ok};
 ghost use Rattle.tifrozel.specs.declared.answers.Undone.TheVariants.{System};
 
-use filing::{VolumeFault, refusal_within};
+use filing::VolumeFault;
 use manual::Cause;
 use record::RecordFault;
 use refusal::Refusal;
@@ -52,15 +52,12 @@ pub fn not_run<W: fmt::Display + Drop>(rt: &HostRuntime, head: &str, why: W) -> 
     Err(Undone::Told)
 }
 
-// A refusal, and behind it the file's refusal that an entry cannot be read for.
+// A refusal, in the words of its fault.
 pub fn refused(rt: &HostRuntime, head: &str, fault: VolumeFault) -> Done
     ensures { is_ok result ≡ false }
 {
     let refusal = Refusal::from(fault);
-    match refusal_within(fault) {
-        Some(cause) => println!(rt; "{head}: refused {refusal}: {cause}")?,
-        None => println!(rt; "{head}: refused {refusal}")?,
-    }
+    println!(rt; "{head}: refused {refusal}")?;
     if let VolumeFault::File(file) | VolumeFault::Unreadable(_, file) = fault
         && let Cause::Unreadable(RecordFault::Layout(field)) = file.cause
     {

@@ -3,7 +3,7 @@ ghost use Rattle.std.specs.Prelude.{◌≡◌, ◌≤◌, length, IfOk, IfErr, O
 ghost use Rattle.manual.specs.Judging.{check_of};
 ghost use Rattle.manual.specs.Laws.{judging};
 ghost use Rattle.manual.specs.Slots.{slots};
-ghost use Rattle.manual.specs.Accepting.{front};
+ghost use Rattle.manual.specs.Slots.{front};
 ghost use Rattle.shelf.specs.Records.{flat};
 ghost use Rattle.filing.specs.Volumes.{entries_of};
 ghost use Rattle.volume.specs.Taking.{fetched, fetch_answer, fetch_bytes};

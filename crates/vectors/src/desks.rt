@@ -1,7 +1,7 @@
 // A shelf with the token that is its own, so that a test can make any call on it after any other.
 ghost use Rattle.std.specs.Prelude.{◌≡◌, ◌++◌, [], ◌∷◌, OnOk, IfSome};
 ghost use Rattle.std.specs.Result.{result_map_both};
-ghost use Rattle.manual.specs.Accepting.{front};
+ghost use Rattle.manual.specs.Slots.{front};
 ghost use Rattle.manual.specs.Slots.{slots};
 ghost use Rattle.filing.specs.Volumes.{entries_of};
 ghost use Rattle.volume.specs.Taking.{fetched, fetch_answer, fetch_bytes};

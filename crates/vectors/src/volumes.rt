@@ -4,7 +4,7 @@ use crate::letters::{file_of, record, shelf_of};
 use crate::tokens::{
     close_and_fetch, close_both, fetch_from_both, take_in_and_fetch, take_in_on_both, take_in_two,
 };
-use filing::{Opened, Standing, VolumeFault, refusal_within};
+use filing::{Opened, Standing, VolumeFault};
 use refusal::Refusal;
 use shelf::{Joined, MemoryShelf, Shelf};
 use std::alloc::{AllocError, Global};
@@ -14,11 +14,7 @@ use volume::open;
 
 // A refusal with its number, layer, place and cause; behind 31 the file's refusal, entire.
 pub(crate) fn told(heap: Global, fault: VolumeFault) -> Result<String, AllocError> {
-    let refusal = Refusal::from(fault);
-    match refusal_within(fault) {
-        Some(within) => format!(in heap; "{refusal}: {within}"),
-        None => refusal.to_string(heap),
-    }
+    Refusal::from(fault).to_string(heap)
 }
 
 fn found(heap: Global, opened: Opened) -> Result<String, AllocError> {

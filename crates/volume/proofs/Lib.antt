@@ -1,4 +1,5 @@
 pub mod Fetched
+pub mod Giving
 pub mod Opened
 pub mod Taken
 pub mod Worked

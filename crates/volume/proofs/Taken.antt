@@ -1,30 +1,34 @@
 -- Taking in: the tests beyond checking, and what is then on the shelf.
-use Rattle.std.proofs.Common.{◌≡◌, ℕ, ◌+◌, ◌<◌, ◌≤◌, Bool, true, false, cond, leb, List, [], ◌∷◌, ◌++◌, length, Some, None, Ok, Err, Option, sym, refl, ap, ◌∙◌, add-one, arith}
-use Rattle.std.proofs.lemmas.List.{append_assoc, length-map}
+use Rattle.std.proofs.Common.{◌≡◌, ℕ, ◌+◌, ◌<◌, ◌≤◌, Bool, true, false, cond, leb, List, [], ◌∷◌, ◌++◌, length, Some, None, Ok, Err, Option, sym, refl, ap, ◌∙◌, subst, add-one, arith}
+use Rattle.std.proofs.lemmas.List.{append_assoc}
 use Rattle.std.proofs.lemmas.Bool.{cond-true, cond-false, leb-true, le-leb, lt-leb}
 use Rattle.record.specs.declared.fields.End.{End}
 use Rattle.record.specs.declared.fields.Start.{Start}
 use Rattle.record.specs.Editions.{Meaning}
 use Rattle.shelf.specs.Records.{Whole}
+use Rattle.trailer.specs.declared.layout.Totals.{Totals}
 use Rattle.trailer.specs.declared.layout.Trailer.{Trailer}
 use Rattle.trailer.specs.Trailers.{trailer_of}
 use Rattle.manual.specs.Slots.{slots}
 use Rattle.manual.specs.Judging.{check_of}
 use Rattle.manual.specs.Laws.{judging}
-use Rattle.manual.specs.Manual.{Line, records, Follows}
-use Rattle.manual.specs.Accepting.{front}
+use Rattle.manual.specs.Manual.{records, Follows}
+use Rattle.manual.specs.Slots.{front}
 use Rattle.manual.proofs.Accepting.{right}
 use Rattle.manual.proofs.Slotting.{slots-lines}
 use Rattle.filing.specs.declared.deposits.Deposits.{Deposits}
 use Rattle.filing.specs.declared.faults.VolumeFault.TheVariants.{Marked, SameStamp, NoRoom}
 use Rattle.filing.specs.declared.standing.Standing.TheVariants as standing
 use Rattle.filing.specs.Entries.{deposits_from, no_deposits, totals_of, reads}
-use Rattle.filing.specs.Volumes.{Records, totals_or, trailer_behind, entries_of}
+use Rattle.filing.specs.Volumes.{Records, totals_or, trailer_with, trailer_behind, entries_of}
 use Rattle.filing.specs.Laws.{Good, Found, taken}
 use Rattle.filing.specs.Taking.{start_of, marked, first_same, unless_same, admitted}
+use Rattle.filing.specs.Readings.{EntryReads, Sums}
+use Rattle.filing.proofs.Readings.{entry_laws, file_entry}
 use Rattle.filing.proofs.Fitting.{fits, file_reads, front-whole}
 use Rattle.volume.specs.declared.tokens.OpenVolume.{OpenVolume}
 use Rattle.volume.specs.Tokens.{open_says, OwnOpen}
+use Rattle.volume.specs.Laws.{Laid}
 use Rattle.volume.proofs.Opened.{laws, last-is-count}
 
 -- The tests of the volume, one after another, where a walk finds the entries.
@@ -59,11 +63,29 @@ module _ (cap : ℕ) (m : Meaning) (bytes : List ℕ) (counts : End) (ok : Ok co
   few-records =
       let f : Follows m bytes _ = ((right cap m bytes).accepted counts (sym ok)).1 in
       let is : front (slots bytes) ≡ records f.lines = ap (λ b. front (slots b)) f.whole ∙ ap front (slots-lines f.lines) ∙ front-whole (records f.lines) in
-      omega (arith, ap length is, length-map f.lines (λ (l : Line). l.bytes), f.few)
+      omega (arith, ap length is, f.reads.few)
 
   -- its records are a good entry
   entry-reads : reads (front (slots bytes)) ≡ Ok (totals_of counts (deposits_from no_deposits (front (slots bytes))))
   entry-reads = file_reads cap m bytes counts (sym ok)
+
+  -- its reading is that of the entry, and what that comes to lies in the trailer
+  pub laid_by_reading : (rs : Records) (t : OpenVolume) (after : Records) → after ≡ taken reads t.entries rs (front (slots bytes)) → Laid m bytes t rs (front (slots bytes)) after
+  laid_by_reading rs t after is =
+      let a = (right cap m bytes).accepted counts (sym ok) in
+      let f : Follows m bytes a.0 = a.1 in
+      let its : front (slots bytes) ≡ records f.lines = ap (λ b. front (slots b)) f.whole ∙ ap front (slots-lines f.lines) ∙ front-whole (records f.lines) in
+      let entry : EntryReads (front (slots bytes)) a.0.tree = subst (λ x. EntryReads x a.0.tree) (sym its) (file_entry m f.lines a.0.tree f.reads) in
+      let comes = (entry_laws.comes (front (slots bytes)) _).0 entry-reads in
+      let sums : Sums a.0.tree (totals_of counts (deposits_from no_deposits (front (slots bytes)))) = subst (λ r. Sums r (totals_of counts (deposits_from no_deposits (front (slots bytes))))) (entry_laws.once (front (slots bytes)) comes.tree a.0.tree comes.follows entry) comes.sums in
+      record {
+        reading = a.0;
+        follows = f;
+        entry = entry;
+        totals = totals_of counts (deposits_from no_deposits (front (slots bytes)));
+        sums = sums;
+        lies = is ∙ ap (λ (x : Totals). rs ++ (front (slots bytes) ++ trailer_of (trailer_with t.entries (length rs) (front (slots bytes)) x) ∷ [])) (ap totals_or entry-reads);
+      }
 
   good : Good reads (front (slots bytes))
   good = record { totals = _; is = entry-reads; fits = fits (front (slots bytes)) _ entry-reads }

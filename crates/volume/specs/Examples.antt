@@ -17,7 +17,7 @@ use Rattle.record.specs.Rows.{row_of}
 use Rattle.trailer.specs.Trailers.{trailer_of, closing_of}
 use Rattle.manual.specs.declared.faults.Cause.{Cause}
 use Rattle.manual.specs.declared.faults.Cause.TheVariants as cause
-use Rattle.manual.specs.Accepting.{front}
+use Rattle.manual.specs.Slots.{front}
 use Rattle.manual.specs.Judging.{check_of, at_record}
 use Rattle.manual.specs.Laws.{judging}
 use Rattle.manual.specs.Refusals.{file_refusal}

@@ -1,6 +1,7 @@
 // Closing a volume, and opening it again.
 ghost use Rattle.std.specs.Prelude.{◌≡◌};
 ghost use Rattle.filing.specs.Laws.{closed};
+ghost use Rattle.filing.specs.Volumes.{entries_of};
 ghost use Rattle.volume.specs.Tokens.{Own, OwnOpen, OwnClosed};
 
 use crate::opening::open;
@@ -8,7 +9,7 @@ use crate::tokens::{ClosedVolume, OpenVolume, Volume};
 use shelf::Shelf;
 use trailer::write_closing;
 
-// Lays the closing record. It is never refused, since an open volume leaves a place free.
+// Lays the closing record. It is never refused, since an open volume leaves a place free. The entries stay.
 pub fn close<S: Shelf>(shelf: &mut S, volume: OpenVolume) -> ClosedVolume
     requires { OwnOpen volume (S.records shelf.old) (S.room shelf.old) }
     ensures entries { result.entries ≡ volume.entries }
@@ -16,6 +17,7 @@ pub fn close<S: Shelf>(shelf: &mut S, volume: OpenVolume) -> ClosedVolume
     ensures list { S.records shelf.new ≡ closed volume.entries (S.records shelf.old) }
     ensures limit { S.room shelf.new ≡ S.room shelf.old }
     ensures same { S.same shelf.old shelf.new }
+    ensures found { entries_of (S.records shelf.new) ≡ entries_of (S.records shelf.old) }
     ensures own { OwnClosed result (S.records shelf.new) (S.room shelf.new) }
 {
     let mut item = [0u8; 80];

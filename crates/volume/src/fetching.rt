@@ -1,6 +1,7 @@
 // Fetching one record of an entry.
 ghost use Rattle.std.specs.Prelude.{◌≡◌, ◌+◌, ◌-◌, ◌<◌, ◌≤◌, [], length, Ok, slice_index_or};
 ghost use Rattle.std.specs.List.{between};
+ghost use Rattle.filing.specs.Refusals.{RefusedBy, of_fetching};
 ghost use Rattle.filing.specs.Volumes.{entries_of};
 ghost use Rattle.volume.specs.Tokens.{says, found_on, Own};
 ghost use Rattle.volume.specs.Taking.{numbered_in, fetched, fetch_answer, fetch_bytes};
@@ -31,15 +32,15 @@ impl From<&Volume> for Opened {
     }
 }
 
-// Whether k counts one of so many, from 1.
-fn is_among(k: usize, many: usize) -> bool
+/// Whether k counts one of so many, from 1.
+pub fn is_among(k: usize, many: usize) -> bool
     ensures { result ≡ numbered_in k many }
 {
     (1..=many).contains(&k)
 }
 
-// The trailer behind entry k.
-fn trailer_of<S: Shelf>(shelf: &S, opened: Opened, k: usize) -> Trailer
+/// The trailer behind entry k.
+pub fn trailer_of<S: Shelf>(shelf: &S, opened: Opened, k: usize) -> Trailer
     requires own { found_on (S.records shelf.now) (S.room shelf.now) ≡ Ok opened }
     requires low { 0 < k }
     requires high { k ≤ opened.entries }
@@ -60,6 +61,7 @@ pub fn fetch<S: Shelf>(
     requires { Own volume.now (S.records shelf.now) (S.room shelf.now) }
     ensures answer { result ≡ fetch_answer (fetched entry number (entries_of (S.records shelf.now))) }
     ensures buffer { out.new ≡ fetch_bytes (fetched entry number (entries_of (S.records shelf.now))) out.old }
+    ensures refusals { RefusedBy of_fetching result }
 {
     let opened = Opened::from(volume);
     if !is_among(entry, opened.entries) {

@@ -1,13 +1,16 @@
 // Opening a shelf: its trailers, its entries, its end.
 ghost use Rattle.std.specs.Prelude.{◌≡◌, ◌<◌, ◌≤◌, length, IfOk};
 ghost use Rattle.filing.specs.Entries.{reads};
+ghost use Rattle.filing.specs.Laws.{FilingLaws};
+ghost use Rattle.filing.specs.Readings.{EntryLaws};
+ghost use Rattle.filing.specs.Refusals.{RefusedBy, of_opening};
 ghost use Rattle.filing.specs.Volumes.{opening_open, opening_closed, begins_98, last_of};
 ghost use Rattle.volume.specs.Tokens.{with_token, found_on, Own};
 ghost use Rattle.volume.specs.Laws.{OpensExactly};
 
 use crate::tokens::{ClosedVolume, OpenVolume, Volume};
 use entries::{Walk, record_at};
-use filing::VolumeFault;
+use filing::{VolumeFault, filing_laws};
 use shelf::Shelf;
 use trailer::{closing_says, is_right_closing};
 
@@ -62,12 +65,17 @@ fn open_closed<S: Shelf>(shelf: &S) -> Result<Volume, VolumeFault>
 }
 
 // What opening a shelf finds: the number of entries, and whether the volume is open or closed, in a token. It opens exactly
-// where its records are what filing some readable entries lays down, and these entries are unique.
+// where its records are what filing some entries with a reading lays down, and these are the entries that later calls find.
+// Whatever the shelf, the laws of filing and of reading entries hold.
 pub fn open<S: Shelf>(shelf: &S) -> Result<Volume, VolumeFault>
     ensures answer { result ≡ with_token (found_on (S.records shelf.now) (S.room shelf.now)) }
+    ensures laws { FilingLaws }
+    ensures readings { EntryLaws }
     ensures exactly { OpensExactly (S.records shelf.now) (S.room shelf.now) result }
     ensures own { IfOk result (λ v. Own v (S.records shelf.now) (S.room shelf.now)) }
+    ensures refusals { RefusedBy of_opening result }
 {
+    filing_laws();
     if ends_98(shelf) {
         open_closed(shelf)
     } else {

@@ -1,13 +1,16 @@
 // Taking a file in: the file's refusals, then those of the volume; then its records and their trailer are laid.
 ghost use Rattle.std.specs.Prelude.{◌≡◌, ◌+◌, ◌<◌, ◌≤◌, [], ◌∷◌, ◌++◌, length, OnOk};
 ghost use Rattle.trailer.specs.Trailers.{trailer_of};
-ghost use Rattle.manual.specs.Accepting.{front};
+ghost use Rattle.manual.specs.Slots.{front};
 ghost use Rattle.manual.specs.Judging.{check_of};
 ghost use Rattle.manual.specs.Laws.{judging};
 ghost use Rattle.manual.specs.Slots.{slots};
+ghost use Rattle.filing.specs.Refusals.{RefusedBy, of_taking};
 ghost use Rattle.filing.specs.Taking.{start_of, marked, admitted};
 ghost use Rattle.filing.specs.Volumes.{entries_of};
+ghost use Rattle.filing.specs.Readings.{EntryLaws};
 ghost use Rattle.volume.specs.Examples.{ExamplesHold};
+ghost use Rattle.volume.specs.Laws.{Laid};
 ghost use Rattle.volume.specs.Taking.{take_answer, take_records, take_token};
 ghost use Rattle.volume.specs.Tokens.{OwnOpen};
 
@@ -15,7 +18,7 @@ use crate::examples::examples_hold;
 use crate::tokens::OpenVolume;
 use entries::{Walk, lay_lines, measure_lines, start_of};
 use file::{Lines, check};
-use filing::VolumeFault;
+use filing::{VolumeFault, filing_laws};
 use record::{Edition, Start, TestMark};
 use shelf::Shelf;
 use sums::Row;
@@ -75,8 +78,8 @@ fn lay_trailer<S: Shelf>(shelf: &mut S, t: &Trailer)
 }
 
 // Takes a file in, and answers its entry number. A refusal changes neither shelf nor token; what the table of payers holds
-// afterwards is not fixed. The entries of the shelf are then the same with the file's records added last. The worked examples of the
-// rules hold.
+// afterwards is not fixed. The entries of the shelf are then the same with the file's records added last, and their trailer has what
+// the file's reading comes to. The worked examples of the rules hold.
 pub fn take_in<S: Shelf, E: Edition>(
     shelf: &mut S,
     volume: &mut OpenVolume,
@@ -91,10 +94,14 @@ pub fn take_in<S: Shelf, E: Edition>(
     ensures limit { S.room shelf.new ≡ S.room shelf.old }
     ensures same { S.same shelf.old shelf.new }
     ensures entries { OnOk result (entries_of (S.records shelf.new) ≡ entries_of (S.records shelf.old) ++ front (slots file.now) ∷ []) }
+    ensures reading { OnOk result (Laid (E.meaning edition.now) file.now volume.old (S.records shelf.old) (front (slots file.now)) (S.records shelf.new)) }
+    ensures readings { EntryLaws }
     ensures own { OwnOpen volume.new (S.records shelf.new) (S.room shelf.new) }
+    ensures refusals { RefusedBy of_taking result }
     ensures examples { ExamplesHold }
 {
     examples_hold();
+    filing_laws();
     let counts = check(file, edition, payers)?;
     let size = measure_lines(file);
     admit(shelf, volume, file, size.records)?;

@@ -1,6 +1,6 @@
 use Rattle.std.proofs.Common.{◌≡◌, ◌≤◌, ◌∷◌, ◌++◌, length, ap, ◌∙◌, arith, length-append, rules}
 use Rattle.manual.specs.Slots.{whole, slots}
-use Rattle.manual.specs.Accepting.{front}
+use Rattle.manual.specs.Slots.{front}
 use Rattle.entries.proofs.FileLines.{laid_line}
 use Rattle.entries.proofs.lines.lay_lines.Goals as goal
 

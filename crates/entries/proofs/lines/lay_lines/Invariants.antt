@@ -1,6 +1,6 @@
 use Rattle.std.proofs.Common.{◌≡◌, ◌++◌}
 use Rattle.manual.specs.Slots.{slots}
-use Rattle.manual.specs.Accepting.{front}
+use Rattle.manual.specs.Slots.{front}
 use Rattle.entries.proofs.lines.lay_lines.Given as goal
 
 -- what was laid and what is left are the whole, on the same shelf

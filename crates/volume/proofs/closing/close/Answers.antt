@@ -3,6 +3,7 @@ use Rattle.shelf.proofs.Calls.{added_is}
 use Rattle.trailer.specs.Trailers.{closing_of}
 use Rattle.filing.specs.Entries.{reads}
 use Rattle.filing.specs.Laws.{closed}
+use Rattle.filing.specs.Volumes.{entries_of}
 use Rattle.volume.specs.Tokens.{found_on, open_says}
 use Rattle.volume.proofs.Opened.{laws, last-is-count}
 use Rattle.volume.proofs.closing.close.Goals as goal
@@ -24,5 +25,6 @@ returns g c =
       list = lies;
       limit = c.add.ensures.limit;
       same = c.add.ensures.same;
+      found = ap entries_of lies ∙ done.entries;
       own = ap (λ n. found_on (g.S.Shelf.records c.add.new.self) n) c.add.ensures.limit ∙ ap (λ x. found_on x limit) lies ∙ done.opens;
     }

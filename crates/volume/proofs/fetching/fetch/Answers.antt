@@ -1,4 +1,4 @@
-use Rattle.std.proofs.Common.{◌≡◌, true, length, Ok, sym, ap, ◌∙◌}
+use Rattle.std.proofs.Common.{◌≡◌, true, length, Ok, sym, refl, ap, ◌∙◌, arith}
 use Rattle.filing.specs.Volumes.{entries_of}
 use Rattle.volume.specs.Taking.{numbered_in, fetch_answer, fetch_bytes}
 use Rattle.volume.proofs.Fetched.{many, no_entry, no_record, record_found}
@@ -12,7 +12,7 @@ returns-then-not-is_among g c =
     let own = c.requires ∙ ap Ok (sym c.from-opened.ensures) in
     let all = many rs (g.S.Shelf.room shelf) (g.S.Shelf.laws.whole shelf) c.from-opened.result own in
     let is = no_entry k c.args.number (entries_of rs) (ap (numbered_in k) all ∙ sym c.if-not-is_among.ensures) in
-    record { answer = ap fetch_answer is; buffer = ap (λ r. fetch_bytes r c.args.out.now) is }
+    record { answer = ap fetch_answer is; buffer = ap (λ r. fetch_bytes r c.args.out.now) is; refusals = (0, omega arith, refl) }
 
 pub returns-then-not-is_among-2 : goal.returns-then-not-is_among-2
 returns-then-not-is_among-2 g c =
@@ -24,7 +24,7 @@ returns-then-not-is_among-2 g c =
     let some : numbered_in k (length (entries_of rs)) ≡ true = ap (numbered_in k) all ∙ sym c.if-not-is_among.ensures in
     let t = c.trailer_of-trailer.result in
     let is = no_record k c.args.number (entries_of rs) some rs t c.trailer_of-trailer.ensures.entry c.trailer_of-trailer.ensures.inside (sym c.if-not-is_among-2.ensures) in
-    record { answer = ap fetch_answer is; buffer = ap (λ r. fetch_bytes r c.args.out.now) is }
+    record { answer = ap fetch_answer is; buffer = ap (λ r. fetch_bytes r c.args.out.now) is; refusals = (0, omega arith, refl) }
 
 pub returns : goal.returns
 returns g c =
@@ -36,4 +36,4 @@ returns g c =
     let some : numbered_in k (length (entries_of rs)) ≡ true = ap (numbered_in k) all ∙ sym c.if-not-is_among.ensures in
     let t = c.trailer_of-trailer.result in
     let is = record_found k c.args.number (entries_of rs) some rs t c.trailer_of-trailer.ensures.entry c.trailer_of-trailer.ensures.inside (sym c.if-not-is_among-2.ensures) in
-    record { answer = ap fetch_answer is; buffer = c.record_at.ensures ∙ ap (λ r. fetch_bytes r c.args.out.now) is }
+    record { answer = ap fetch_answer is; buffer = c.record_at.ensures ∙ ap (λ r. fetch_bytes r c.args.out.now) is; refusals = tt }

@@ -1,5 +1,5 @@
 use Rattle.std.proofs.Common.{length, ap, arith}
-use Rattle.manual.specs.Accepting.{front}
+use Rattle.manual.specs.Slots.{front}
 use Rattle.manual.specs.Slots.{slots}
 use Rattle.filing.specs.Volumes.{entries_of}
 use Rattle.volume.specs.Tokens.{open_says}

@@ -1,12 +1,15 @@
-use Rattle.std.proofs.Common.{◌≡◌, ◌+◌, length, Ok, sym, ap, ◌∙◌, arith, length-append, rules}
-use Rattle.manual.specs.Accepting.{front}
+use Rattle.std.proofs.Common.{◌≡◌, ◌+◌, length, Ok, Err, sym, ap, ◌∙◌, arith, length-append, rules}
+use Rattle.manual.specs.Slots.{front}
 use Rattle.manual.specs.Slots.{slots}
 use Rattle.filing.specs.declared.standing.Standing.TheVariants.{Open}
+use Rattle.filing.specs.Refusals.{of_taking}
 use Rattle.filing.specs.Taking.{admitted}
 use Rattle.filing.specs.Volumes.{entries_of}
+use Rattle.filing.proofs.Giving.{checked_gives}
 use Rattle.volume.specs.Tokens.{found_on}
+use Rattle.volume.proofs.Giving.{rose_gives, not_admitted}
 use Rattle.volume.proofs.Opened.{last-is-count, few-entries}
-use Rattle.volume.proofs.Taken.{has_room, few-records, trailer-is, taken_is, found}
+use Rattle.volume.proofs.Taken.{has_room, few-records, laid_by_reading, trailer-is, taken_is, found}
 use Rattle.volume.proofs.taking.take_in.Goals as goal
 
 pub admit-requires-clause-few : goal.admit-requires-clause-few
@@ -16,6 +19,17 @@ admit-requires-clause-few g c =
 
 pub returns-in_err-admit-clause-same : goal.returns-in_err-admit-clause-same
 returns-in_err-admit-clause-same g c = g.S.Shelf.laws.same_refl c.args.shelf.now
+
+pub returns-in_err-counts-clause-refusals : goal.returns-in_err-counts-clause-refusals
+returns-in_err-counts-clause-refusals g c = rose_gives of_taking c.from_residual.result _ c.from_residual.ensures.1 (checked_gives (Err c.in_err-counts.field-0.0))
+
+pub returns-in_err-admit-clause-refusals : goal.returns-in_err-admit-clause-refusals
+returns-in_err-admit-clause-refusals g c =
+    let shelf = c.args.shelf.now in
+    let rs = g.S.Shelf.records shelf in
+    let e = front (slots c.args.file.now) in
+    let refused : Err c.in_err-admit.field-0.0 ≡ admitted (g.S.Shelf.room shelf) (length rs) (entries_of rs) e = sym c.in_err-admit.was ∙ c.admit.ensures in
+    not_admitted (g.S.Shelf.room shelf) (length rs) (entries_of rs) e c.from_residual-in_err-admit.result c.in_err-admit.field-0.0 refused c.from_residual-in_err-admit.ensures.1
 
 pub overflow_add-trailer : goal.overflow_add-trailer
 overflow_add-trailer g c =
@@ -84,8 +98,11 @@ returns g c =
       limit = kept;
       same = g.S.Shelf.laws.same_trans shelf c.lay_lines.new.shelf c.lay_trailer.new.shelf c.lay_lines.ensures.same c.lay_trailer.ensures.same;
       entries = ap entries_of lies ∙ f.entries;
+      reading = laid_by_reading cap m file counts ok rs t (g.S.Shelf.records c.lay_trailer.new.shelf) lies;
+      readings = c.filing_laws.ensures.readings;
       own =
           ap (found_on (g.S.Shelf.records c.lay_trailer.new.shelf)) kept ∙ ap (λ x. found_on x limit) lies ∙ f.opens
           ∙ ap (λ n. Ok (record { entries = t.entries + 1; last = n; standing = Open })) (sym last);
+      refusals = tt;
       examples = search rules;
     }
