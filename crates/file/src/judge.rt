@@ -3,10 +3,10 @@ ghost use Rattle.manual.specs.Judging.{Mode, may_follow, paid_for, deposit_agree
 ghost use Rattle.record.specs.declared.fields.Core.TheVariants.{Payment, Deduction, Deposit as deposit_of};
 ghost use Rattle.file.specs.Judges.{section_held, held_by, state_of, outcome, headed_judge, taken_in};
 
-use crate::order::{begun, follows, place_behind, sits};
+use crate::order::{begun, follows, place_behind};
 use crate::payers::Payers;
 use field::Currency;
-use manual::{Cause, Place};
+use manual::{Cause, Place, level_at, rider_fault};
 use record::{Class, Core, Deposit, End, Kind, RecordFault, Transfer, fields_read};
 use sums::Row;
 
@@ -224,13 +224,10 @@ impl<P: Payers> Judge<P> {
                 if !begun(self.place) {
                     return Err(Cause::Order);
                 }
-                if !sits(self.place, rider.level) {
-                    return Err(Cause::RiderLevel);
+                match rider_fault(level_at(self.place), rider) {
+                    Some(cause) => Err(cause),
+                    None => Ok(()),
                 }
-                if !rider.formed {
-                    return Err(Cause::RiderIllFormed);
-                }
-                Ok(())
             }
             Class::Unknown => {
                 if !begun(self.place) {

@@ -1,9 +1,9 @@
 ghost use Rattle.std.specs.Prelude.{◌≡◌};
-ghost use Rattle.manual.specs.Judging.{may_follow, place_after, begun as begun_term, sits as sits_term, ended as ended_term};
+ghost use Rattle.manual.specs.Judging.{may_follow, place_after, begun as begun_term, ended as ended_term};
 ghost use Rattle.manual.specs.declared.places.Place.TheVariants.{Within};
 
 use manual::{Place, Stage};
-use record::{Kind, Level};
+use record::Kind;
 
 // Whether a core record of this kind may follow at this place.
 pub fn follows(place: Place, kind: Kind) -> bool
@@ -66,16 +66,4 @@ pub fn ended(place: Place) -> bool
     ensures { result ≡ ended_term place }
 {
     place == Place::Done
-}
-
-// Whether a rider of this level may stand at this place.
-pub fn sits(place: Place, level: Level) -> bool
-    ensures { result ≡ sits_term place level }
-{
-    match place {
-        Place::Fresh | Place::Done => false,
-        Place::Begun | Place::Between => level == Level::File,
-        Place::Opened => level == Level::Section,
-        Place::Within(_) => level == Level::Item,
-    }
 }

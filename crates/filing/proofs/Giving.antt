@@ -22,7 +22,7 @@ module _ (numbers : List ℕ) where
   then_gives (Ok x) f h g = g x
   then_gives (Err e) f h g = h
 
-  cond_gives : {T : Type 0} (b : Bool) (r q : Result T VolumeFault) → RefusedBy numbers r → RefusedBy numbers q → RefusedBy numbers (cond b r q)
+  pub cond_gives : {T : Type 0} (b : Bool) (r q : Result T VolumeFault) → RefusedBy numbers r → RefusedBy numbers q → RefusedBy numbers (cond b r q)
   cond_gives true r q h g = h
   cond_gives false r q h g = g
 

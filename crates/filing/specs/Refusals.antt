@@ -20,8 +20,8 @@ abbrev pub unreadable : ℕ → FileRefusal → Refusal
 unreadable entry file = record { reason = reason.EntryUnreadable; layer = layer.Volume; place = Some (Entry entry); within = Some file }
 
 -- a file's refusal, told of the record in its entry
-abbrev pub in_entry : ℕ → FileRefusal → Refusal
-in_entry entry file = record { reason = file.reason; layer = layer.File; place = Some (EntryRecord entry file.at); within = None }
+abbrev pub at_entry_record : ℕ → FileRefusal → Refusal
+at_entry_record entry file = record { reason = file.reason; layer = layer.File; place = Some (EntryRecord entry file.at); within = None }
 
 -- reason, layer and place of each refusal; the file's own keep theirs
 abbrev pub volume_refusal : VolumeFault → Refusal
@@ -35,7 +35,7 @@ volume_refusal (Unreadable entry e) = unreadable entry (told_of e)
 volume_refusal (Differs entry) = at_volume reason.TrailerDisagrees (Some (Entry entry))
 -- the closing record is told as entry 0
 volume_refusal ClosingDiffers = at_volume reason.TrailerDisagrees (Some (Entry 0))
-volume_refusal (Rider entry e) = in_entry entry (told_of e)
+volume_refusal (Rider entry e) = at_entry_record entry (told_of e)
 volume_refusal (RowsShort n) = at_volume reason.RowTableShort (Some (Rows n))
 volume_refusal BalanceShort = at_volume reason.BalanceTableShort None
 volume_refusal (CopyShort n) = at_volume reason.CopyBufferShort (Some (Bytes n))

@@ -1,6 +1,6 @@
 ghost use Rattle.std.specs.Prelude.{◌≡◌};
 ghost use Rattle.filing.specs.declared.faults.VolumeFault.TheVariants.{File as OfFile};
-ghost use Rattle.filing.specs.Refusals.{volume_refusal, at_volume as volume_told, unreadable as unreadable_told, in_entry as entry_told};
+ghost use Rattle.filing.specs.Refusals.{volume_refusal, at_volume as volume_told, unreadable as unreadable_told, at_entry_record as entry_told};
 
 use manual::FileFault;
 use refusal::{FileRefusal, Layer, Place, Reason, Refusal};
@@ -52,7 +52,7 @@ impl From<VolumeFault> for Refusal {
         match fault {
             VolumeFault::File(e) => Refusal::from(e),
             VolumeFault::Unreadable(entry, e) => unreadable(entry, FileRefusal::from(e)),
-            VolumeFault::Rider(entry, e) => in_entry(entry, FileRefusal::from(e)),
+            VolumeFault::Rider(entry, e) => at_entry_record(entry, FileRefusal::from(e)),
             VolumeFault::Marked => at_volume(Reason::MarkedTest, None),
             VolumeFault::SameStamp(entry) => {
                 at_volume(Reason::SameTimeStamp, Some(Place::Entry(entry)))
@@ -98,7 +98,7 @@ fn unreadable(entry: usize, file: FileRefusal) -> Refusal
 }
 
 // A file's refusal, told of the record in its entry.
-fn in_entry(entry: usize, file: FileRefusal) -> Refusal
+fn at_entry_record(entry: usize, file: FileRefusal) -> Refusal
     ensures { result ≡ entry_told entry file }
 {
     Refusal {

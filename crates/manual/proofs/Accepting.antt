@@ -15,7 +15,7 @@ use Rattle.record.specs.Rows.{kind_in}
 use Rattle.sums.specs.Laws.{distinct}
 use Rattle.manual.specs.declared.faults.Cause.TheVariants as cause
 use Rattle.manual.specs.declared.faults.FileFault.{FileFault}
-use Rattle.manual.specs.Slots.{Slot, whole, slots}
+use Rattle.manual.specs.Slots.{Slot, whole, front, slots}
 use Rattle.manual.specs.Judging.{Mode, begin, judge, check_of}
 use Rattle.manual.specs.Laws.{NotBefore, judging, not_judging}
 use Rattle.manual.specs.Manual.{records, Read, Item, Section, Tree, Reading, riders_of, leaf, leaves, total, first_kind, cores, last_kind, level_after, SectionAdds, SectionStands, CountsStand, ReadAs, Follows}
@@ -239,11 +239,19 @@ accepted cap m bs e h =
       a.counts,
     )
 
--- Files with a reading are accepted, where the table has rows enough.
-
 -- the slots of the bytes are the records of the lines
 its_slots : (m : Meaning) (bs : List ℕ) (r : Reading) → (f : Follows m bs r) → slots bs ≡ map whole (records f.lines)
 its_slots m bs r f = ap slots f.whole ∙ slots-lines f.lines
+
+-- the whole records of whole slots, and so of a file that follows the manual
+pub front_whole : (rs : List (List ℕ)) → front (map whole rs) ≡ rs
+front_whole [] = refl
+front_whole (r ∷ rs) = ap (λ l. r ∷ l) (front_whole rs)
+
+pub front_lines : (m : Meaning) (bs : List ℕ) (r : Reading) → (f : Follows m bs r) → front (slots bs) ≡ records f.lines
+front_lines m bs r f = ap front (its_slots m bs r f) ∙ front_whole (records f.lines)
+
+-- Files with a reading are accepted, where the table has rows enough.
 
 accepts : (cap : ℕ) (m : Meaning) (bs : List ℕ) (r : Reading) → Follows m bs r → AllByRecursion (Roomy cap) r.tree.sections → check_of (judging cap) m bs ≡ Ok r.tree.end.fields
 accepts cap m bs r f roomy =

@@ -26,3 +26,4 @@ pub mod Tables
 pub mod TooShort
 pub mod Trees
 pub mod Unique
+pub mod Ridden

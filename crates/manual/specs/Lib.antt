@@ -4,6 +4,7 @@ pub mod Modes
 pub mod Payers
 pub mod Wrong
 pub mod Judging
+pub mod Riders
 pub mod Manual
 pub mod Laws
 pub mod Accepting

@@ -5,9 +5,11 @@ ghost use Rattle.manual.specs.Laws.{CheckLaws};
 
 mod faults;
 mod places;
+mod riders;
 
 pub use faults::{Cause, FileFault};
 pub use places::{Place, Stage};
+pub use riders::{level_after, level_at, rider_fault};
 
 // What holds of checking any file, proved once; there is nothing to run.
 #[tactic(auto, using(crate::proofs::CheckLaws::laws))]

@@ -82,8 +82,8 @@ by_kind_extends more less c (Some k) line e = refl
 
 extends : (more less : Meaning) → Extends more less → (c : ℕ) → known (less.level c) ≡ true → (line : List ℕ) → Whole line → code_in line ≡ Some c → class_of more line ≡ class_of less line
 extends more less x c h line w e =
-    let alike = x c h in
-    let out : outside more c line ≡ outside less c line = ap (λ l. by_level l c (more.formed c line)) alike.0 ∙ ap (by_level (less.level c) c) (alike.1 line w e) in
+    let alike = x c line h w e in
+    let out : outside more c line ≡ outside less c line = ap (λ l. by_level l c (more.formed c line)) alike.0 ∙ ap (by_level (less.level c) c) alike.1 in
     ap (λ o. class_in more o line) e ∙ by_kind_extends more less c (kind_of c) line out ∙ sym (ap (λ o. class_in less o line) e)
 
 pub laws : ClassLaws

@@ -30,11 +30,12 @@ pub record Meaning : Type 0 where
 abbrev pub Whole : List ℕ → Type 0
 Whole line = (length line ≡ 80) × (every is_text line ≡ true)
 
--- one edition extends another: every code known to the other has the same level, and of the records of that code the same are well formed
+-- one edition extends another: every code known to the other has the same level, and of the whole records of that code the same are well
+-- formed. It is said of each such record; there is one for every code
 abbrev pub Extends : Meaning → Meaning → Type 0
 Extends more less =
-    (c : ℕ) → known (less.level c) ≡ true
-    → (more.level c ≡ less.level c) × ((line : List ℕ) → Whole line → code_in line ≡ Some c → more.formed c line ≡ less.formed c line)
+    (c : ℕ) (line : List ℕ) → known (less.level c) ≡ true → Whole line → code_in line ≡ Some c
+    → (more.level c ≡ less.level c) × (more.formed c line ≡ less.formed c line)
 
 -- the bare edition knows nothing
 abbrev pub bare : Meaning

@@ -2,7 +2,7 @@ ghost use Rattle.std.specs.Prelude.{◌≡◌, length};
 ghost use Rattle.record.specs.Codes.{code_at};
 ghost use Rattle.record.specs.Classes.{class_of, class_in, outside};
 ghost use Rattle.record.specs.Laws.{ClassLaws};
-ghost use Rattle.record.specs.Sorts.{sort_of};
+ghost use Rattle.record.specs.Sorts.{sort_of, sort_at};
 
 use crate::editions::{Edition, Level};
 use crate::fields::{Core, Field};
@@ -84,7 +84,7 @@ fn sort_coded<E: Edition>(a: u8, b: u8, line: &[u8], edition: &E) -> Sort
 /// The sort of a record of 80 bytes under an edition: a look at its code, and at its form if it is a rider.
 pub fn sort_in<E: Edition>(line: &[u8], edition: &E) -> Sort
     requires { length line.now ≡ 80 }
-    ensures { result ≡ sort_of (class_of (E.meaning edition.now) line.now) }
+    ensures { result ≡ sort_at (E.meaning edition.now) line.now }
 {
     let [a, b, ..] = line else { unreachable() };
     sort_coded(*a, *b, line, edition)

@@ -39,8 +39,8 @@ pub fn is_among(k: usize, many: usize) -> bool
     (1..=many).contains(&k)
 }
 
-/// The trailer behind entry k.
-pub fn trailer_of<S: Shelf>(shelf: &S, opened: Opened, k: usize) -> Trailer
+/// The trailer that bounds entry k: its records lie behind the first `previous`, so many as it says.
+pub fn find_trailer<S: Shelf>(shelf: &S, opened: Opened, k: usize) -> Trailer
     requires own { found_on (S.records shelf.now) (S.room shelf.now) ≡ Ok opened }
     requires low { 0 < k }
     requires high { k ≤ opened.entries }
@@ -67,7 +67,7 @@ pub fn fetch<S: Shelf>(
     if !is_among(entry, opened.entries) {
         return Err(VolumeFault::NoEntry(entry));
     }
-    let trailer = trailer_of(shelf, opened, entry);
+    let trailer = find_trailer(shelf, opened, entry);
     if !is_among(number, trailer.records as usize) {
         return Err(VolumeFault::NoEntry(entry));
     }

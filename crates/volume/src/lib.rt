@@ -9,7 +9,7 @@ mod taking;
 mod tokens;
 
 pub use closing::{close, open_again};
-pub use fetching::{fetch, is_among, trailer_of};
+pub use fetching::{fetch, find_trailer, is_among};
 pub use opening::open;
 pub use taking::take_in;
 pub use tokens::{ClosedVolume, OpenVolume, Volume};

@@ -22,8 +22,8 @@ returns-then-not-is_among-2 g c =
     let own = c.requires ∙ ap Ok (sym c.from-opened.ensures) in
     let all = many rs (g.S.Shelf.room shelf) (g.S.Shelf.laws.whole shelf) c.from-opened.result own in
     let some : numbered_in k (length (entries_of rs)) ≡ true = ap (numbered_in k) all ∙ sym c.if-not-is_among.ensures in
-    let t = c.trailer_of-trailer.result in
-    let is = no_record k c.args.number (entries_of rs) some rs t c.trailer_of-trailer.ensures.entry c.trailer_of-trailer.ensures.inside (sym c.if-not-is_among-2.ensures) in
+    let t = c.find_trailer-trailer.result in
+    let is = no_record k c.args.number (entries_of rs) some rs t c.find_trailer-trailer.ensures.entry c.find_trailer-trailer.ensures.inside (sym c.if-not-is_among-2.ensures) in
     record { answer = ap fetch_answer is; buffer = ap (λ r. fetch_bytes r c.args.out.now) is; refusals = (0, omega arith, refl) }
 
 pub returns : goal.returns
@@ -34,6 +34,6 @@ returns g c =
     let own = c.requires ∙ ap Ok (sym c.from-opened.ensures) in
     let all = many rs (g.S.Shelf.room shelf) (g.S.Shelf.laws.whole shelf) c.from-opened.result own in
     let some : numbered_in k (length (entries_of rs)) ≡ true = ap (numbered_in k) all ∙ sym c.if-not-is_among.ensures in
-    let t = c.trailer_of-trailer.result in
-    let is = record_found k c.args.number (entries_of rs) some rs t c.trailer_of-trailer.ensures.entry c.trailer_of-trailer.ensures.inside (sym c.if-not-is_among-2.ensures) in
+    let t = c.find_trailer-trailer.result in
+    let is = record_found k c.args.number (entries_of rs) some rs t c.find_trailer-trailer.ensures.entry c.find_trailer-trailer.ensures.inside (sym c.if-not-is_among-2.ensures) in
     record { answer = ap fetch_answer is; buffer = c.record_at.ensures ∙ ap (λ r. fetch_bytes r c.args.out.now) is; refusals = tt }

@@ -1,6 +1,6 @@
 use Rattle.std.proofs.Common.{ap}
 use Rattle.volume.proofs.Fetched.{walked, inside, entry_found}
-use Rattle.volume.proofs.fetching.trailer_of.Goals as goal
+use Rattle.volume.proofs.fetching.find_trailer.Goals as goal
 
 pub of-requires : goal.of-requires
 of-requires g c =

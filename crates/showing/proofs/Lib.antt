@@ -1,0 +1,6 @@
+pub mod Filling
+pub mod Surveying
+pub mod Passing
+pub mod Copied
+pub mod Riders
+pub mod Giving
