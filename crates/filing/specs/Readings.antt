@@ -1,4 +1,4 @@
--- What an entry comes to, by the manual: nothing here runs.
+-- What an entry comes to, by the manual, and how entries lie on a shelf. Nothing here runs.
 use Rattle.std.specs.Prelude.{◌≡◌, ℕ, suc, ◌+◌, true, List, [], ◌∷◌, ◌++◌, length, Ok}
 use Rattle.std.specs.List.{AllByRecursion}
 use Rattle.field.specs.declared.money.Currency.{Currency}
@@ -16,12 +16,12 @@ use Rattle.manual.specs.Wrong.{FirstWrong}
 use Rattle.filing.specs.Entries.{entry_slots, reads}
 use Rattle.filing.specs.Volumes.{Records, trailer_with}
 
--- an amount in this currency, in öre
+-- what an amount in this currency adds in SEK, in öre
 abbrev pub in_sek : Currency → ℕ → ℕ
 in_sek Sek n = n
 in_sek Eur n = 0
 
--- and in cents
+-- and in EUR, in cents
 abbrev pub in_eur : Currency → ℕ → ℕ
 in_eur Sek n = 0
 in_eur Eur n = n
@@ -45,8 +45,8 @@ pub record ComesTo (e : Records) (t : Totals) : Type 0 where
   pub follows : EntryReads e tree
   pub sums : Sums tree t
 
--- entries lie one after the other, behind so many entries in so many records: each one has a tree, and behind it stands the
--- trailer with what that comes to
+-- these records are entries one after the other, the first of them behind so many entries in so many records: each one has a tree,
+-- and behind it stands the trailer with what that comes to
 pub data Lie : ℕ → ℕ → List Records → Records → Type 0 where
   none : (k places : ℕ) → Lie k places [] []
   more : (k places : ℕ) (e : Records) (t : Totals) (es : List Records) (rs : Records) → ComesTo e t → Lie (k + 1) (places + length e + 1) es rs

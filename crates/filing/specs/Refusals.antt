@@ -12,6 +12,7 @@ use Rattle.manual.specs.Refusals.{told_of, file_refusal}
 use Rattle.filing.specs.declared.faults.VolumeFault.{VolumeFault}
 use Rattle.filing.specs.declared.faults.VolumeFault.TheVariants.{File, Marked, SameStamp, NoRoom, NoEntry, NoTrailer, Unreadable, Differs, ClosingDiffers, Rider, RowsShort, BalanceShort, CopyShort}
 
+-- a refusal of the layer volume, with its place if it has one
 abbrev pub at_volume : Reason → Option Place → Refusal
 at_volume why place = record { reason = why; layer = layer.Volume; place = place; within = None }
 
@@ -23,7 +24,7 @@ unreadable entry file = record { reason = reason.EntryUnreadable; layer = layer.
 abbrev pub at_entry_record : ℕ → FileRefusal → Refusal
 at_entry_record entry file = record { reason = file.reason; layer = layer.File; place = Some (EntryRecord entry file.at); within = None }
 
--- reason, layer and place of each refusal; the file's own keep theirs
+-- what each refusal tells; those of the file to be taken in keep reason, layer and place
 abbrev pub volume_refusal : VolumeFault → Refusal
 volume_refusal (File e) = file_refusal e
 volume_refusal Marked = at_volume reason.MarkedTest None
@@ -48,7 +49,7 @@ number_told f = number_of (volume_refusal f).reason
 abbrev pub RefusedBy : {T : Type 0} → List ℕ → Result T VolumeFault → Type 0
 RefusedBy numbers answer = IfErr answer (λ f. Contains numbers (number_told f))
 
--- the numbers that each call of a volume can give, in ascending order
+-- the numbers by which each of these calls can be refused, in ascending order
 
 -- opening
 abbrev pub of_opening : List ℕ

@@ -39,6 +39,7 @@ closing_behind Open entries last = []
 closing_behind Closed entries last = closing_of entries last ∷ []
 
 module _ (reads : Reads) where
+  -- the trailer of an entry that lies there, with what reading it answers
   abbrev pub trailer_behind : ℕ → ℕ → Records → Trailer
   trailer_behind entries places e = trailer_with entries places e (totals_or (reads e))
 

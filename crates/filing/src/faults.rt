@@ -1,38 +1,40 @@
 ghost use Rattle.std.specs.Prelude.{◌≡◌};
 ghost use Rattle.filing.specs.declared.faults.VolumeFault.TheVariants.{File as OfFile};
-ghost use Rattle.filing.specs.Refusals.{volume_refusal, at_volume as volume_told, unreadable as unreadable_told, at_entry_record as entry_told};
+ghost use Rattle.filing.specs.Refusals.{volume_refusal, at_volume as volume_told};
+ghost use Rattle.filing.specs.Refusals.{unreadable as unreadable_told, at_entry_record as entry_told};
 
 use manual::FileFault;
 use refusal::{FileRefusal, Layer, Place, Reason, Refusal};
 
-// Why a call of a volume is refused.
+/// Why a call of a volume is refused.
 #[derive(Clone, Copy, Debug, PartialEq, Eq)]
 pub enum VolumeFault {
-    // the file to be taken in is refused
+    /// The file to be taken in is refused.
     File(FileFault),
-    // the file is marked as a test
+    /// The file is marked as a test.
     Marked,
-    // the entry with this number has the file's time stamp
+    /// The entry with this number has the file's time stamp.
     SameStamp(usize),
-    // not enough places are free
+    /// Not enough places are free.
     NoRoom,
-    // the entry with this number, or the record asked for in it, is not there
+    /// The entry with this number, or the record asked for in it, is not there.
     NoEntry(usize),
-    // the shelf record with this number is no right trailer, where one is due
+    /// The shelf record with this number is no right trailer, where one is due.
     NoTrailer(usize),
-    // the entry with this number cannot be read as a file, and why
+    /// The entry with this number cannot be read as a file, and why.
     Unreadable(usize, FileFault),
-    // the entry with this number is not what its trailer says
+    /// The entry with this number is not what its trailer says.
     Differs(usize),
-    // the closing record does not say how many entries there are, or has not its zeros
+    /// The closing record does not say how many entries there are, or has not its zeros.
     ClosingDiffers,
-    // the entry with this number has a rider that the reader's edition finds ill-formed or at a wrong level, and where
+    /// The entry with this number has a rider that the reader's edition finds ill-formed or at a
+    /// wrong level: which of the two, and at which record of the entry.
     Rider(usize, FileFault),
-    // the caller's table has too few rows for those of an entry; so many are needed
+    /// The caller's table has too few rows for those of an entry; so many are needed.
     RowsShort(usize),
-    // the caller's table has too few rows for a balance
+    /// The caller's table has too few rows for a balance.
     BalanceShort,
-    // the caller's buffer has too few bytes for the plain copy of an entry; so many are needed
+    /// The caller's buffer has too few bytes for the plain copy of an entry; so many are needed.
     CopyShort(usize),
 }
 
@@ -74,6 +76,7 @@ impl From<VolumeFault> for Refusal {
     }
 }
 
+// A refusal of the layer volume, with its place if it has one.
 fn at_volume(reason: Reason, place: Option<Place>) -> Refusal
     ensures { result ≡ volume_told reason place }
 {

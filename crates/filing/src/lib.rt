@@ -1,4 +1,5 @@
-// What stands on a shelf: entries with their trailers, what opening finds, and why a volume refuses.
+// What stands on a shelf: entries with their trailers, what opening finds, and why a volume
+// refuses.
 #![tactic(auto)]
 
 mod deposits;

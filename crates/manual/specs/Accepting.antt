@@ -1,4 +1,5 @@
--- What checking has to do with the manual: which files it accepts, how many readings they have, and when the payer table is too short.
+-- What checking has to do with the manual: which files it accepts, how many readings they have, which refusal the others get, and when
+-- the payer table is too short.
 use Rattle.std.specs.Prelude.{◌≡◌, ℕ, suc, ◌<◌, ◌≤◌, List, [], map, take, Ok, Err, Result, ◌≢◌, nat_eq}
 use Rattle.std.specs.List.{AllByRecursion}
 use Rattle.record.specs.declared.fields.End.{End}

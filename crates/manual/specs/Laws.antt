@@ -94,10 +94,10 @@ pub record CheckLaws : Type 0 where
   -- no line has more than 82
   pub next_line : (mode : Mode) (m : Meaning) (ls : List Line) (rest other : List ℕ) (f : FileFault) → f.number ≤ length ls + 1
       → take 82 rest ≡ take 82 other → check_of mode m (laid ls rest) ≡ Err f → check_of mode m (laid ls other) ≡ Err f
-  -- so where a longer file is accepted, none that begins with the same lines is refused at one of them
+  -- so where a file is accepted, no bytes that begin with its first lines are refused at one of these
   pub none_hidden : (mode : Mode) (m : Meaning) (ls : List Line) (rest other : List ℕ) (e : End)
       → check_of mode m (laid ls other) ≡ Ok e → NotBefore (length ls + 1) (check_of mode m (laid ls rest))
-  -- the records that are judged are those of the lines at the front of the bytes
+  -- the first slots of bytes are the records of the lines at their front
   pub cut_at_lines : (ls : List Line) (rest : List ℕ) → slots (laid ls rest) ≡ map whole (records ls) ++ slots rest
-  -- and bytes that are left are no whole record exactly where they begin with no line
+  -- and bytes that are left begin with a line, or are all one slot that is no whole record
   pub line_or_none : (b : ℕ) (bs : List ℕ) → (slots (b ∷ bs) ≡ broken ∷ []) ⊎ ((l : Line) × (rest : List ℕ) × (b ∷ bs ≡ laid (l ∷ []) rest))

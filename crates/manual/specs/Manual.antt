@@ -78,7 +78,7 @@ pub record Tree : Type 0 where
   pub sections : List Section
   pub end : Read End
 
--- a rider in its place: behind so many leaves of the tree, with its bytes as they stand
+-- a rider in its place: how many leaves of the tree stand before it, and its bytes as they stand
 pub record RiderAt : Type 0 where
   pub behind : ℕ
   pub bytes : List ℕ
@@ -183,7 +183,7 @@ pub record SectionAdds (s : Section) : Type 0 where
 
 -- all the rules of a section
 pub record SectionStands (s : Section) : Type 0 where
-  -- those
+  -- those of `SectionAdds`
   pub adds : SectionAdds s
   -- and every payer number has payments of at least its deductions
   pub none_owes : (p : ℕ) → total (deducted_by p) s.items ≤ total (paid_by p) s.items
@@ -249,21 +249,22 @@ level_after kind.End = None
 abbrev pub is_rider : Meaning → List ℕ → Bool
 is_rider m r = is_some (and_then (code_in r) m.level)
 
--- a record in front of the riders behind it, if it is one; so many core records stand before it
+-- a record in front of the riders behind it, if it is a rider; n core records stand before it
 abbrev pub rider_then : Bool → ℕ → List ℕ → List RiderAt → List RiderAt
 rider_then true n r rest = record { behind = n; bytes = r } ∷ rest
 rider_then false n r rest = rest
 
--- so many core records, and this one if it is one
+-- so many core records, and one more if this record is one
 abbrev pub with_core : Option Kind → ℕ → ℕ
 with_core None n = n
 with_core (Some k) n = suc n
 
--- the riders in order, each as it stands, behind as many core records as stand before it; so many stand before the first record
+-- the riders in order, each with its bytes and with how many core records stand before it; n of these stand before the first record
 abbrev pub riders_from : Meaning → ℕ → List (List ℕ) → List RiderAt
 riders_from m n [] = []
 riders_from m n (r ∷ rs) = rider_then (is_rider m r) n r (riders_from m (with_core (kind_at r) n) rs)
 
+-- the riders among the records of a file
 abbrev pub riders_of : Meaning → List (List ℕ) → List RiderAt
 riders_of m rs = riders_from m 0 rs
 

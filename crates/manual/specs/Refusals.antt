@@ -9,7 +9,7 @@ use Rattle.manual.specs.declared.faults.Cause.{Cause}
 use Rattle.manual.specs.declared.faults.Cause.TheVariants.{Broken, Unreadable, Order, UnlikeItem, Information, NoPlace, PayerOwes, Deposit, Counts, TooMany, Unfinished, RiderIllFormed, RiderLevel}
 use Rattle.manual.specs.declared.faults.FileFault.{FileFault}
 
--- why a file is refused, by the cause; a record's own faults keep their reasons
+-- the reason of a cause; the faults of a record by itself keep theirs
 abbrev pub reason_of : Cause → Reason
 reason_of Broken = reason.BrokenRecord
 reason_of (Unreadable e) = records.reason_of e

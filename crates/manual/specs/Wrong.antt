@@ -34,20 +34,21 @@ kept [] = []
 kept (Ok l ∷ rs) = l.fields ∷ kept rs
 kept (Err f ∷ rs) = kept rs
 
--- the core records among these records, the newest first
+-- the fields of the core records among these records, the newest first
 abbrev pub come : List (List ℕ) → List Core
 come before = kept (cores (reverse before))
 
--- the kinds of the core records, in order
+-- the kind of a core record in front of those behind it; others are left out
 abbrev pub kind_then : Option Kind → List Kind → List Kind
 kind_then None ks = ks
 kind_then (Some k) ks = k ∷ ks
 
+-- the kinds of the core records, in the order of the file
 abbrev pub kinds : List (List ℕ) → List Kind
 kinds [] = []
 kinds (r ∷ rs) = kind_then (kind_at r) (kinds rs)
 
--- those of the section that is open: behind the last opening record
+-- of core records, the newest first: those of the section that is open, which came behind the last opening record
 abbrev pub inside : List Core → List Core
 inside [] = []
 inside (core.Opening o ∷ cs) = []
@@ -66,7 +67,7 @@ head (core.Payment t ∷ cs) = Some t
 head (core.Deduction t ∷ cs) = Some t
 head (c ∷ cs) = head cs
 
--- and the information records that it has
+-- and how many information records that item has
 abbrev pub informed : List Core → ℕ
 informed [] = 0
 informed (core.Payment t ∷ cs) = 0
@@ -74,7 +75,7 @@ informed (core.Deduction t ∷ cs) = 0
 informed (core.Information ∷ cs) = suc (informed cs)
 informed (c ∷ cs) = informed cs
 
--- WHAT A CORE RECORD COUNTS FOR.
+-- WHAT A CORE RECORD COUNTS FOR: one among the payments, deductions, extra references or deposits, or nothing.
 
 abbrev pub a_payment : Core → ℕ
 a_payment (core.Payment t) = 1
@@ -113,10 +114,11 @@ deducts_by p other = 0
 
 -- ORDER.
 
+-- the kinds of the leaves of a tree, in order
 abbrev pub kinds_of : Tree → List Kind
 kinds_of r = map (λ (l : Read Core). kind_in l.fields) (leaves r)
 
--- core records of these kinds begin a file: some tree with a section or more, each with a payment or more, writes them first
+-- core records of these kinds can begin a file: they are the first leaves of some tree with a section or more, each with a payment or more
 pub record Begins (ks : List Kind) : Type 0 where
   pub reading : Tree
   pub some_section : 0 < length reading.sections
@@ -200,16 +202,16 @@ pub record Rides (m : Meaning) (r : List ℕ) : Type 0 where
   pub coded : code_in r ≡ Some code
   pub known : m.level code ≡ Some level
 
--- this is wrong with a whole record behind these
+-- this is wrong with a whole record, where these came before it; 1, 11 and 12 are no fault of a whole record and follow below
 abbrev pub WrongRecord : Mode → Meaning → List (List ℕ) → List ℕ → Cause → Type 0
 WrongRecord mode m before r cause.Broken = ⊥
 -- 2: its code is not two digits
 WrongRecord mode m before r (cause.Unreadable Code) = code_in r ≡ None
--- 4: a core record's field breaks its layout, and it is the first one
+-- 4: this is the first field of a core record that breaks its layout
 WrongRecord mode m before r (cause.Unreadable (Layout f)) = (k : Kind) × (kind_at r ≡ Some k) × (read_core k (between 2 (length r) r) ≡ Err f)
--- 3
+-- 3: it is out of order
 WrongRecord mode m before r cause.Order = OutOfOrder before r
--- 5 to 10
+-- 5 to 10: its fields do not agree with what came before
 WrongRecord mode m before r cause.UnlikeItem = (c : Core) × Has r c × Unlike (come before) c
 WrongRecord mode m before r cause.Information = (c : Core) × Has r c × Hundredth (come before) c
 WrongRecord mode m before r cause.NoPlace = (c : Core) × Has r c × Crowded mode before c
@@ -223,11 +225,11 @@ WrongRecord mode m before r cause.RiderIllFormed = (x : Rides m r) × (m.formed 
 -- 14: a rider's level is not that of its place
 WrongRecord mode m before r cause.RiderLevel = (x : Rides m r) × (and_then (last_kind before) level_after ≢ Some x.level)
 
--- this is wrong where the file goes on so behind these records, if it goes on
+-- this is wrong with what stands behind these records, or with the end of the file, where nothing does
 abbrev pub Wrong : Mode → Meaning → List (List ℕ) → Option Slot → Cause → Type 0
 -- 12: it ends before its end record
 Wrong mode m before None c = (c ≡ cause.Unfinished) × (last_kind before ≢ Some kind.End)
--- 1: with bytes that are no whole record; 11: or behind 50,000 records
+-- 1: bytes are left that are no whole record; 11: something is left behind 50,000 records
 Wrong mode m before (Some broken) c = (c ≡ cause.Broken) ⊎ ((c ≡ cause.TooMany) × (50000 ≤ length before))
 Wrong mode m before (Some (whole r)) c = ((c ≡ cause.TooMany) × (50000 ≤ length before)) ⊎ WrongRecord mode m before r c
 
@@ -248,18 +250,18 @@ rank cause.Deposit = 11
 rank cause.Counts = 12
 rank cause.Unfinished = 13
 
--- what stands behind so many records, if there is something; nothing stands behind bytes that are no whole record
+-- the slot behind so many records, if there is one; none stands behind bytes that are no whole record
 abbrev pub slot_at : ℕ → List Slot → Option Slot
 slot_at n [] = None
 slot_at zero (x ∷ xs) = Some x
 slot_at (suc n) (whole r ∷ xs) = slot_at n xs
 slot_at (suc n) (broken ∷ xs) = None
 
--- this is wrong with a file that is cut so, behind its first k records
+-- of a file cut into these slots, this is wrong behind the first k records, so at record k + 1
 abbrev pub WrongAt : Mode → Meaning → List Slot → ℕ → Cause → Type 0
 WrongAt mode m ss k c = Wrong mode m (take k (front ss)) (slot_at k ss) c
 
--- and it is the first thing that is: nothing is wrong at a record before, and there nothing that is looked for earlier
+-- and it is the first thing that is: nothing is wrong at an earlier record, and at this one nothing that is looked for earlier
 pub record FirstWrong (mode : Mode) (m : Meaning) (ss : List Slot) (k : ℕ) (c : Cause) : Type 0 where
   pub wrong : WrongAt mode m ss k c
   pub none_before : (j : ℕ) (d : Cause) → j < k → WrongAt mode m ss j d → ⊥

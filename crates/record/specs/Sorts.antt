@@ -1,4 +1,4 @@
--- What a record is by its code: its class without the fields.
+-- The sort of a record: its class, less the fields of a core record.
 use Rattle.std.specs.Prelude.{ℕ, List}
 use Rattle.record.specs.declared.classes.Class.{Class}
 use Rattle.record.specs.declared.classes.Class.TheVariants as class

@@ -30,14 +30,16 @@ pub enum Class {
     Unknown,
 }
 
-/// What a record is by its code alone: its class, where its fields are not read.
+/// The class of a record, less the fields of a core record, which need not be read for it.
 #[derive(Clone, Copy, Debug, PartialEq, Eq)]
 pub enum Sort {
-    // its code is not two digits
+    /// Its code is not two digits.
     BadCode,
+    /// A core record of this kind.
     Core(Kind),
+    /// A record of a code that the edition knows, with its level and whether it is well formed.
     Rider(Rider),
-    // neither core nor known to the edition
+    /// Neither core nor known to the edition.
     Unknown,
 }
 
@@ -67,7 +69,7 @@ fn beyond<E: Edition>(code: u8, line: &[u8], edition: &E) -> Sort
     }
 }
 
-// The sort of a record of 80 bytes whose code begins with these two.
+// The sort of a record of 80 bytes that begins with these two.
 fn sort_coded<E: Edition>(a: u8, b: u8, line: &[u8], edition: &E) -> Sort
     requires { length line.now ≡ 80 }
     ensures { result ≡ sort_of (class_in (E.meaning edition.now) (code_at a b) line.now) }
@@ -81,7 +83,8 @@ fn sort_coded<E: Edition>(a: u8, b: u8, line: &[u8], edition: &E) -> Sort
     }
 }
 
-/// The sort of a record of 80 bytes under an edition: a look at its code, and at its form if it is a rider.
+/// The sort of a record of 80 bytes under an edition: a look at its code, and for a rider at
+/// whether the edition finds it well formed.
 pub fn sort_in<E: Edition>(line: &[u8], edition: &E) -> Sort
     requires { length line.now ≡ 80 }
     ensures { result ≡ sort_at (E.meaning edition.now) line.now }
@@ -96,8 +99,8 @@ fn class_laws()
     ensures { ClassLaws }
 {}
 
-// The class of a record of 80 bytes under an edition. Whatever the record and the editions, reserve positions do not
-// change a class, and the other laws of `ClassLaws` hold.
+// The class of a record of 80 bytes under an edition. Whatever the record and the editions, reserve
+// positions do not change a class, and the other laws of `ClassLaws` hold.
 pub fn classify<E: Edition>(line: &[u8], edition: &E) -> Class
     requires { length line.now ≡ 80 }
     ensures class { result ≡ class_of (E.meaning edition.now) line.now }

@@ -1,4 +1,5 @@
-// One record of 80 bytes: the thirteen layouts, reserve positions, editions, and what class a record has.
+// One record of 80 bytes: the thirteen layouts, reserve positions, editions, and what class a
+// record has.
 #![tactic(auto)]
 
 mod classes;

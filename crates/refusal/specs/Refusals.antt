@@ -1,4 +1,4 @@
--- What a file's refusal tells as one of the product's.
+-- A file's refusal as one of all the product's refusals.
 use Rattle.std.specs.Prelude.{Some, None}
 use Rattle.refusal.specs.declared.FileRefusal.{FileRefusal}
 use Rattle.refusal.specs.declared.Refusal.{Refusal}

@@ -1,4 +1,5 @@
-//! What every refusal tells: its reason, the layer that refused, and the place; and how it is written for a person.
+//! What every refusal tells: its reason, the layer that refused, the place, and the file's refusal
+//! for which an entry can't be read; and how it is written for a person.
 #![tactic(auto)]
 
 ghost use Rattle.std.specs.Prelude.{◌≡◌};
@@ -173,7 +174,7 @@ pub enum Layer {
 /// Where it was refused, or what it would have needed.
 #[derive(Clone, Copy, Debug, PartialEq, Eq)]
 pub enum Place {
-    /// A record of the file, counted from 1.
+    /// A record of the file, counted from 1; where the file ends too early, the last record + 1.
     Record(usize),
     /// How many records the shelf holds.
     Count(usize),
@@ -192,7 +193,9 @@ pub enum Place {
 /// A file's refusal entire: why, and at which record, counted from 1.
 #[derive(Clone, Copy, Debug, PartialEq, Eq)]
 pub struct FileRefusal {
+    /// Why.
     pub reason: Reason,
+    /// The record; where the file ends too early, the last record + 1.
     pub at: usize,
 }
 
@@ -201,9 +204,9 @@ pub struct FileRefusal {
 pub struct Refusal {
     pub reason: Reason,
     pub layer: Layer,
-    /// None where the whole of what was asked is refused.
+    /// None with the reasons 20, 22 and 26, which have no place.
     pub place: Option<Place>,
-    /// The file's refusal for which an entry can't be read; none with any other reason.
+    /// The file's refusal for which an entry can't be read; none with any reason but 31.
     pub within: Option<FileRefusal>,
 }
 

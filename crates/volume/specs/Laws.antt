@@ -36,7 +36,8 @@ pub record OpensExactly (rs : Records) (limit : ℕ) (answer : Result Volume Vol
   -- and these are the entries that are found on it
   pub once : (v : Volume) (es : List Records) → Holds rs limit v es → es ≡ entries_of rs
 
--- a file that was taken in under an edition with this meaning, with these records, onto a shelf whose open volume the token stands for
+-- this file was taken in under an edition with this meaning: the shelf held rs and the token stood for its open volume, the file's
+-- records are e, and afterwards the shelf holds this
 pub record Laid (m : Meaning) (bytes : List ℕ) (t : OpenVolume) (rs e after : Records) : Type 0 where
   -- the file has a reading
   pub reading : Reading

@@ -9,7 +9,8 @@ use crate::tokens::{ClosedVolume, OpenVolume, Volume};
 use shelf::Shelf;
 use trailer::write_closing;
 
-// Lays the closing record. It is never refused, since an open volume leaves a place free. The entries stay.
+/// Lays the closing record. It is never refused, since an open volume leaves a place free. The
+/// entries stay.
 pub fn close<S: Shelf>(shelf: &mut S, volume: OpenVolume) -> ClosedVolume
     requires { OwnOpen volume (S.records shelf.old) (S.room shelf.old) }
     ensures entries { result.entries ≡ volume.entries }

@@ -32,7 +32,7 @@ impl From<&Volume> for Opened {
     }
 }
 
-/// Whether k counts one of so many, from 1.
+/// Whether k is the number of one of so many, counted from 1.
 pub fn is_among(k: usize, many: usize) -> bool
     ensures { result ≡ numbered_in k many }
 {
@@ -44,13 +44,14 @@ pub fn find_trailer<S: Shelf>(shelf: &S, opened: Opened, k: usize) -> Trailer
     requires own { found_on (S.records shelf.now) (S.room shelf.now) ≡ Ok opened }
     requires low { 0 < k }
     requires high { k ≤ opened.entries }
-    ensures entry { between result.previous (result.previous + result.records) (S.records shelf.now) ≡ slice_index_or (entries_of (S.records shelf.now)) (k - 1) [] }
+    ensures entry { between result.previous (result.previous + result.records) (S.records shelf.now)
+        ≡ slice_index_or (entries_of (S.records shelf.now)) (k - 1) [] }
     ensures inside { result.previous + result.records ≤ length (S.records shelf.now) }
 {
     Walk::of(shelf, opened.last, opened.entries).find_entry(k)
 }
 
-// Copies record `number` of entry `entry` as it stands on the shelf.
+/// Copies record `number` of entry `entry` as it stands on the shelf.
 pub fn fetch<S: Shelf>(
     shelf: &S,
     volume: &Volume,
@@ -59,8 +60,10 @@ pub fn fetch<S: Shelf>(
     out: &mut [u8; 80],
 ) -> Result<(), VolumeFault>
     requires { Own volume.now (S.records shelf.now) (S.room shelf.now) }
-    ensures answer { result ≡ fetch_answer (fetched entry number (entries_of (S.records shelf.now))) }
-    ensures buffer { out.new ≡ fetch_bytes (fetched entry number (entries_of (S.records shelf.now))) out.old }
+    ensures answer { result
+        ≡ fetch_answer (fetched entry number (entries_of (S.records shelf.now))) }
+    ensures buffer { out.new
+        ≡ fetch_bytes (fetched entry number (entries_of (S.records shelf.now))) out.old }
     ensures refusals { RefusedBy of_fetching result }
 {
     let opened = Opened::from(volume);

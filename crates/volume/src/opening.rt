@@ -64,9 +64,10 @@ fn open_closed<S: Shelf>(shelf: &S) -> Result<Volume, VolumeFault>
     }
 }
 
-// What opening a shelf finds: the number of entries, and whether the volume is open or closed, in a token. It opens exactly
-// where its records are what filing some entries with a reading lays down, and these are the entries that later calls find.
-// Whatever the shelf, the laws of filing and of reading entries hold.
+/// What opening a shelf finds: the number of entries, and whether the volume is open or closed, in
+/// a token. It opens exactly where its records are what filing some entries that can be read lays
+/// down, with the closing record behind them or a place free; and these are the entries that later
+/// calls find. Whatever the shelf, the laws of filing and of reading entries hold.
 pub fn open<S: Shelf>(shelf: &S) -> Result<Volume, VolumeFault>
     ensures answer { result ≡ with_token (found_on (S.records shelf.now) (S.room shelf.now)) }
     ensures laws { FilingLaws }

@@ -1,4 +1,5 @@
-// Taking a file in: the file's refusals, then those of the volume; then its records and their trailer are laid.
+// Taking a file in: the file's refusals, then those of the volume; then its records and their
+// trailer are laid.
 ghost use Rattle.std.specs.Prelude.{◌≡◌, ◌+◌, ◌<◌, ◌≤◌, [], ◌∷◌, ◌++◌, length, OnOk};
 ghost use Rattle.trailer.specs.Trailers.{trailer_of};
 ghost use Rattle.manual.specs.Slots.{front};
@@ -49,7 +50,8 @@ fn admit<S: Shelf>(
     requires own { OwnOpen volume.now (S.records shelf.now) (S.room shelf.now) }
     requires counted { many ≡ length (front (slots file.now)) }
     requires few { many ≤ 50000 }
-    ensures { result ≡ admitted (S.room shelf.now) (length (S.records shelf.now)) (entries_of (S.records shelf.now)) (front (slots file.now)) }
+    ensures { result ≡ admitted (S.room shelf.now) (length (S.records shelf.now))
+        (entries_of (S.records shelf.now)) (front (slots file.now)) }
 {
     let start = file_start(file);
     if is_marked(start) {
@@ -77,9 +79,11 @@ fn lay_trailer<S: Shelf>(shelf: &mut S, t: &Trailer)
     let _ = shelf.add(&item);
 }
 
-// Takes a file in, and answers its entry number. A refusal changes neither shelf nor token; what the table of payers holds
-// afterwards is not fixed. The entries of the shelf are then the same with the file's records added last, and their trailer has what
-// the file's reading comes to. The worked examples of the rules hold.
+/// Takes a file in, and answers its entry number. The entries of the shelf are then the same with
+/// the file's records added last, and their trailer has what the file's reading comes to. A refusal
+/// changes neither shelf nor token. What the table of payers holds afterwards is not fixed.
+/// Whatever the shelf, the laws of reading entries hold, and so do the worked examples of the
+/// rules.
 pub fn take_in<S: Shelf, E: Edition>(
     shelf: &mut S,
     volume: &mut OpenVolume,
@@ -88,13 +92,16 @@ pub fn take_in<S: Shelf, E: Edition>(
     payers: &mut [Row<u64>],
 ) -> Result<usize, VolumeFault>
     requires { OwnOpen volume.old (S.records shelf.old) (S.room shelf.old) }
-    ensures answer { result ≡ take_answer (check_of (judging (length payers.old)) (E.meaning edition.now) file.now) (S.room shelf.old) (S.records shelf.old) volume.old (front (slots file.now)) }
+    ensures answer { result ≡ take_answer
+        (check_of (judging (length payers.old)) (E.meaning edition.now) file.now)
+        (S.room shelf.old) (S.records shelf.old) volume.old (front (slots file.now)) }
     ensures list { S.records shelf.new ≡ take_records result (S.records shelf.old) volume.old (front (slots file.now)) }
     ensures token { volume.new ≡ take_token result (S.records shelf.old) volume.old (front (slots file.now)) }
     ensures limit { S.room shelf.new ≡ S.room shelf.old }
     ensures same { S.same shelf.old shelf.new }
     ensures entries { OnOk result (entries_of (S.records shelf.new) ≡ entries_of (S.records shelf.old) ++ front (slots file.now) ∷ []) }
-    ensures reading { OnOk result (Laid (E.meaning edition.now) file.now volume.old (S.records shelf.old) (front (slots file.now)) (S.records shelf.new)) }
+    ensures reading { OnOk result (Laid (E.meaning edition.now) file.now volume.old
+        (S.records shelf.old) (front (slots file.now)) (S.records shelf.new)) }
     ensures readings { EntryLaws }
     ensures own { OwnOpen volume.new (S.records shelf.new) (S.room shelf.new) }
     ensures refusals { RefusedBy of_taking result }
