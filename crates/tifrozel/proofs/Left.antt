@@ -1,4 +1,4 @@
--- What is left of a desk, and of a seat with it.
+-- What is left of an archive, and of a seat with it.
 use Rattle.std.proofs.Common.{◌⊎◌, inl, inr, Option, Some, None}
 use Rattle.std.specs.Prelude.{MatchOption}
 

@@ -8,11 +8,11 @@ use Rattle.manual.specs.Slots.{slots}
 use Rattle.filing.specs.Volumes.{Records, entries_of}
 use Rattle.volume.specs.Taking.{fetched}
 use Rattle.volume.specs.declared.tokens.Volume.{Volume}
-use Rattle.tifrozel.specs.declared.desk.NotLaid.{NotLaid}
+use Rattle.archive.specs.declared.NotLaid.{NotLaid}
 use Rattle.tifrozel.specs.declared.requests.AtShelf.{AtShelf}
 use Rattle.tifrozel.specs.declared.requests.AtShelf.TheVariants.{Open, TakeIn, Close, Fetch}
 use Rattle.tifrozel.specs.declared.words.EditionName.{EditionName}
-use Rattle.tifrozel.specs.Desks.{taking_answer, taking_records, taking_volume, closing_answer, closing_records, closing_volume}
+use Rattle.archive.specs.Archives.{taking_answer, taking_records, taking_volume, closing_answer, closing_records, closing_volume}
 use Rattle.tifrozel.specs.Editions.{meant}
 
 -- whether the command can lay something, and so leave what could not be written
@@ -22,7 +22,7 @@ Lays (TakeIn f) = ⊤
 Lays Close = ⊤
 Lays (Fetch k n) = ⊥
 
--- taking in a file of these bytes under this edition, with so many rows for payers, at a desk with this limit: what is answered
+-- taking in a file of these bytes under this edition, with so many rows for payers, in an archive with this limit: what is answered
 abbrev pub file_answer : ℕ → EditionName → List ℕ → ℕ → Records → Volume → Result ℕ NotLaid
 file_answer payers edition bytes limit rs v = taking_answer (check_of (judging payers) (meant edition) bytes) limit rs v (front (slots bytes))
 
@@ -40,7 +40,7 @@ Kept rs v after w = (after ≡ rs) × (w ≡ v)
 abbrev pub LeavesClosing : Records → Volume → Records → Volume → Type 0
 LeavesClosing rs v after w = (after ≡ closing_records v rs) × (w ≡ closing_volume v)
 
--- a command, with so many rows for payers, at a desk with this limit: opening and fetching change nothing; taking in leaves what taking in the
+-- a command, with so many rows for payers, in an archive with this limit: opening and fetching change nothing; taking in leaves what taking in the
 -- bytes that were read leaves, under the edition that was asked for, or nothing is changed where they could not be read
 abbrev pub Leaves : AtShelf → ℕ → ℕ → Records → Volume → Records → Volume → Type 0
 Leaves Open payers limit rs v after w = Kept rs v after w

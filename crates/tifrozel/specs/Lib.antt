@@ -1,5 +1,4 @@
 pub mod Commands
-pub mod Desks
 pub mod Editions
 pub mod Places
 pub mod Requests

@@ -5,7 +5,6 @@ ghost use Rattle.std.specs.Prelude.{◌≤◌};
 
 mod answers;
 mod checks;
-mod desk;
 mod disk;
 mod files;
 mod listing;
@@ -15,7 +14,7 @@ mod show;
 mod words;
 
 use answers::{Done, Undone, bytes_of, not_run, records, tell};
-use desk::Desk;
+use archive::Archive;
 use disk::{places, read_shelf};
 use files::{check, read};
 use requests::{Request, request_of};
@@ -132,8 +131,8 @@ fn at_shelf<S: Shelf + Drop>(
     words: &[String],
     payers: usize,
 ) -> Done {
-    let seat = match Desk::open(shelf) {
-        Ok(desk) => Seat::At(desk),
+    let seat = match Archive::open(shelf) {
+        Ok(archive) => Seat::At(archive),
         Err(fault) => Seat::Shut(fault),
     };
     commands(rt, seat, file, words, payers)

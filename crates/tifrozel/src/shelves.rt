@@ -4,15 +4,15 @@ ghost use Rattle.filing.specs.Volumes.{entries_of};
 ghost use Rattle.volume.specs.Taking.{fetched};
 ghost use Rattle.filing.specs.declared.faults.VolumeFault.{VolumeFault};
 ghost use Rattle.tifrozel.specs.declared.shelves.Seat.TheVariants.{NoShelf, At, Shut, Unwritten};
-ghost use Rattle.tifrozel.specs.Desks.{closing_answer};
+ghost use Rattle.archive.specs.Archives.{closing_answer};
 ghost use Rattle.tifrozel.specs.Commands.{Does, Kept, Lays, Leaves, LeavesTaking, LeavesClosing, file_answer};
 
 use crate::answers::{Done, Undone, bytes_of, entries, not_run, refused};
-use crate::desk::{Desk, NotLaid};
 use crate::disk::replace;
 use crate::requests::{AtShelf, FileAsked};
 use crate::show::RecordLine;
 use crate::words::EditionName;
+use archive::{Archive, NotLaid};
 use filing::{Standing, VolumeFault};
 use shelf::Shelf;
 use std::{fmt, fs, io};
@@ -22,7 +22,7 @@ use sums::Row;
 #[derive(Drop)]
 pub enum Seat<S: Shelf> {
     NoShelf,
-    At(Desk<S>),
+    At(Archive<S>),
     // opening it was refused
     Shut(VolumeFault),
     // something was laid that is not known to be in its file
@@ -32,8 +32,8 @@ pub enum Seat<S: Shelf> {
 // What is left of the shelf's standing by a command, and whether it did what it was asked.
 pub type Turn<S> = (Seat<S>, Done);
 
-// What is left of a desk by a command: none where something was laid that could not be written.
-type Left<S> = (Option<Desk<S>>, Done);
+// What is left of an archive by a command: none where something was laid that could not be written.
+type Left<S> = (Option<Archive<S>>, Done);
 
 const UNWRITTEN: &str =
     "an earlier command could not write the shelf; start again from what is on disk";
@@ -50,13 +50,13 @@ fn say<W: fmt::Display + Drop>(rt: &HostRuntime, head: &str, done: W) -> Done {
     Ok(())
 }
 
-// Puts what stands at the desk into the shelf's file.
+// Puts what stands in the archive into the shelf's file.
 fn keep<S: Shelf + Drop>(
     rt: &HostRuntime,
-    desk: &Desk<S>,
+    archive: &Archive<S>,
     file: &mut ShelfFile<'_>,
 ) -> io::Result<()> {
-    let bytes = desk.bytes(rt.alloc())?;
+    let bytes = archive.bytes(rt.alloc())?;
     replace(rt, file.path, file.size, &bytes)?;
     file.size = bytes.len();
     Ok(())
@@ -66,14 +66,14 @@ fn keep<S: Shelf + Drop>(
 fn laid<S: Shelf + Drop, W: fmt::Display + Drop>(
     rt: &HostRuntime,
     head: &str,
-    desk: Desk<S>,
+    archive: Archive<S>,
     file: &mut ShelfFile<'_>,
     done: W,
 ) -> Left<S>
-    ensures { MatchOption result.0 ⊤ (λ d. (d.shelf ≡ desk.shelf) × (d.volume ≡ desk.volume)) }
+    ensures { MatchOption result.0 ⊤ (λ a. (a.shelf ≡ archive.shelf) × (a.volume ≡ archive.volume)) }
 {
-    match keep(rt, &desk, file) {
-        Ok(()) => (Some(desk), say(rt, head, done)),
+    match keep(rt, &archive, file) {
+        Ok(()) => (Some(archive), say(rt, head, done)),
         Err(e) => {
             let path = file.path;
             let said = not_run(rt, head, format_args!("cannot write {path}: {e}"));
@@ -82,17 +82,17 @@ fn laid<S: Shelf + Drop, W: fmt::Display + Drop>(
     }
 }
 
-fn open<S: Shelf + Drop>(rt: &HostRuntime, head: &str, desk: Desk<S>) -> Left<S>
-    ensures { IsSomeAnd result.0 (λ d. (d.shelf ≡ desk.shelf) × (d.volume ≡ desk.volume)) }
+fn open<S: Shelf + Drop>(rt: &HostRuntime, head: &str, archive: Archive<S>) -> Left<S>
+    ensures { IsSomeAnd result.0 (λ a. (a.shelf ≡ archive.shelf) × (a.volume ≡ archive.volume)) }
 {
-    let desk = desk.reopen();
-    let found = desk.opened();
+    let archive = archive.reopen();
+    let found = archive.opened();
     let many = entries(found.entries);
     let said = match found.standing {
         Standing::Open => say(rt, head, format_args!("{many}, open")),
         Standing::Closed => say(rt, head, format_args!("{many}, closed")),
     };
-    (Some(desk), said)
+    (Some(archive), said)
 }
 
 // What taking in is handed beside the shelf.
@@ -118,61 +118,60 @@ fn bring(rt: &HostRuntime, head: &str, asked: FileAsked, payers: usize) -> Resul
 fn take_in<S: Shelf + Drop>(
     rt: &HostRuntime,
     head: &str,
-    desk: Desk<S>,
+    mut archive: Archive<S>,
     file: &mut ShelfFile<'_>,
     brought: Result<Brought, Undone>,
 ) -> Left<S>
-    ensures left { MatchOption result.0 ⊤ (λ d. MatchResult brought (λ b. LeavesTaking (length b.payers.items) b.edition b.file.items (S.room desk.shelf) (S.records desk.shelf) desk.volume (S.records d.shelf) d.volume) (λ _. Kept (S.records desk.shelf) desk.volume (S.records d.shelf) d.volume)) }
-    ensures limit { MatchOption result.0 ⊤ (λ d. S.room d.shelf ≡ S.room desk.shelf) }
-    ensures done { OnOk result.1 (MatchResult brought (λ b. is_ok (file_answer (length b.payers.items) b.edition b.file.items (S.room desk.shelf) (S.records desk.shelf) desk.volume) ≡ true) (λ _. ⊥)) }
+    ensures left { MatchOption result.0 ⊤ (λ a. MatchResult brought (λ b. LeavesTaking (length b.payers.items) b.edition b.file.items (S.room archive.shelf) (S.records archive.shelf) archive.volume (S.records a.shelf) a.volume) (λ _. Kept (S.records archive.shelf) archive.volume (S.records a.shelf) a.volume)) }
+    ensures limit { MatchOption result.0 ⊤ (λ a. S.room a.shelf ≡ S.room archive.shelf) }
+    ensures done { OnOk result.1 (MatchResult brought (λ b. is_ok (file_answer (length b.payers.items) b.edition b.file.items (S.room archive.shelf) (S.records archive.shelf) archive.volume) ≡ true) (λ _. ⊥)) }
 {
     let mut brought = match brought {
         Ok(brought) => brought,
-        Err(e) => return (Some(desk), Err(e)),
+        Err(e) => return (Some(archive), Err(e)),
     };
-    let (desk, answer) = desk.take_in(&brought.file, &brought.edition, &mut brought.payers);
-    match answer {
-        Ok(entry) => laid(rt, head, desk, file, format_args!("entry {entry}")),
-        Err(NotLaid::Shut) => (
-            Some(desk),
+    match archive.take_in(&brought.file, &brought.edition, &mut brought.payers) {
+        Ok(entry) => laid(rt, head, archive, file, format_args!("entry {entry}")),
+        Err(NotLaid::Closed) => (
+            Some(archive),
             not_run(rt, head, "the volume is closed; use another shelf"),
         ),
-        Err(NotLaid::Refused(fault)) => (Some(desk), refused(rt, head, fault)),
+        Err(NotLaid::Refused(fault)) => (Some(archive), refused(rt, head, fault)),
     }
 }
 
 fn close<S: Shelf + Drop>(
     rt: &HostRuntime,
     head: &str,
-    desk: Desk<S>,
+    archive: Archive<S>,
     file: &mut ShelfFile<'_>,
 ) -> Left<S>
-    ensures left { MatchOption result.0 ⊤ (λ d. LeavesClosing (S.records desk.shelf) desk.volume (S.records d.shelf) d.volume) }
-    ensures limit { MatchOption result.0 ⊤ (λ d. S.room d.shelf ≡ S.room desk.shelf) }
-    ensures done { OnOk result.1 (is_ok (closing_answer desk.volume) ≡ true) }
+    ensures left { MatchOption result.0 ⊤ (λ a. LeavesClosing (S.records archive.shelf) archive.volume (S.records a.shelf) a.volume) }
+    ensures limit { MatchOption result.0 ⊤ (λ a. S.room a.shelf ≡ S.room archive.shelf) }
+    ensures done { OnOk result.1 (is_ok (closing_answer archive.volume) ≡ true) }
 {
-    let (desk, answer) = desk.close();
+    let (archive, answer) = archive.close();
     match answer {
         Ok(many) => {
             let many = entries(many);
-            laid(rt, head, desk, file, format_args!("{many}, closed"))
+            laid(rt, head, archive, file, format_args!("{many}, closed"))
         }
-        Err(NotLaid::Shut) => (Some(desk), not_run(rt, head, "the volume is closed")),
-        Err(NotLaid::Refused(fault)) => (Some(desk), refused(rt, head, fault)),
+        Err(NotLaid::Closed) => (Some(archive), not_run(rt, head, "the volume is closed")),
+        Err(NotLaid::Refused(fault)) => (Some(archive), refused(rt, head, fault)),
     }
 }
 
 fn fetch<S: Shelf + Drop>(
     rt: &HostRuntime,
     head: &str,
-    desk: &Desk<S>,
+    archive: &Archive<S>,
     entry: usize,
     number: usize,
 ) -> Done
-    ensures { OnOk result (is_ok (fetched entry number (entries_of (S.records desk.now.shelf))) ≡ true) }
+    ensures { OnOk result (is_ok (fetched entry number (entries_of (S.records archive.now.shelf))) ≡ true) }
 {
     let mut record = [0u8; 80];
-    if let Err(fault) = desk.fetch(entry, number, &mut record) {
+    if let Err(fault) = archive.fetch(entry, number, &mut record) {
         return refused(rt, head, fault);
     }
     let line = RecordLine(record);
@@ -181,38 +180,38 @@ fn fetch<S: Shelf + Drop>(
     Ok(())
 }
 
-// Runs a command at a desk.
-fn at_desk<S: Shelf + Drop>(
+// Runs a command at an archive.
+fn at_archive<S: Shelf + Drop>(
     rt: &HostRuntime,
     head: &str,
-    desk: Desk<S>,
+    archive: Archive<S>,
     file: &mut ShelfFile<'_>,
     asked: AtShelf,
     payers: usize,
 ) -> Left<S>
-    ensures left { MatchOption result.0 (Lays asked.entry) (λ d. Leaves asked.entry payers (S.room desk.shelf) (S.records desk.shelf) desk.volume (S.records d.shelf) d.volume) }
-    ensures limit { MatchOption result.0 ⊤ (λ d. S.room d.shelf ≡ S.room desk.shelf) }
-    ensures done { OnOk result.1 (Does asked.entry payers (S.room desk.shelf) (S.records desk.shelf) desk.volume) }
+    ensures left { MatchOption result.0 (Lays asked.entry) (λ a. Leaves asked.entry payers (S.room archive.shelf) (S.records archive.shelf) archive.volume (S.records a.shelf) a.volume) }
+    ensures limit { MatchOption result.0 ⊤ (λ a. S.room a.shelf ≡ S.room archive.shelf) }
+    ensures done { OnOk result.1 (Does asked.entry payers (S.room archive.shelf) (S.records archive.shelf) archive.volume) }
 {
     match asked {
-        AtShelf::Open => open(rt, head, desk),
+        AtShelf::Open => open(rt, head, archive),
         AtShelf::TakeIn(asked) => {
             let brought = bring(rt, head, asked, payers);
-            take_in(rt, head, desk, file, brought)
+            take_in(rt, head, archive, file, brought)
         }
-        AtShelf::Close => close(rt, head, desk, file),
+        AtShelf::Close => close(rt, head, archive, file),
         AtShelf::Fetch { entry, number } => {
-            let fetched = fetch(rt, head, &desk, entry, number);
-            (Some(desk), fetched)
+            let fetched = fetch(rt, head, &archive, entry, number);
+            (Some(archive), fetched)
         }
     }
 }
 
-fn seat_of<S: Shelf + Drop>(left: Option<Desk<S>>) -> Seat<S>
-    ensures { MatchOption left (result ≡ Unwritten) (λ d. result ≡ At d) }
+fn seat_of<S: Shelf + Drop>(left: Option<Archive<S>>) -> Seat<S>
+    ensures { MatchOption left (result ≡ Unwritten) (λ a. result ≡ At a) }
 {
     match left {
-        Some(desk) => Seat::At(desk),
+        Some(archive) => Seat::At(archive),
         None => Seat::Unwritten,
     }
 }
@@ -229,15 +228,15 @@ pub fn at_seat<S: Shelf + Drop>(
     ensures none { seat ≡ NoShelf → (result.0 ≡ NoShelf) × (is_ok result.1 ≡ false) }
     ensures shut { (e : VolumeFault) → seat ≡ Shut e → (result.0 ≡ Shut e) × (is_ok result.1 ≡ false) }
     ensures unwritten { seat ≡ Unwritten → (result.0 ≡ Unwritten) × (is_ok result.1 ≡ false) }
-    ensures desk { (d : _) → seat ≡ At d → ((result.0 ≡ Unwritten) × Lays asked.entry) ⊎ ((after : _) × ((result.0 ≡ At after) × Leaves asked.entry payers (S.room d.shelf) (S.records d.shelf) d.volume (S.records after.shelf) after.volume)) }
-    ensures done { (d : _) → seat ≡ At d → OnOk result.1 (Does asked.entry payers (S.room d.shelf) (S.records d.shelf) d.volume) }
+    ensures archive { (a : _) → seat ≡ At a → ((result.0 ≡ Unwritten) × Lays asked.entry) ⊎ ((after : _) × ((result.0 ≡ At after) × Leaves asked.entry payers (S.room a.shelf) (S.records a.shelf) a.volume (S.records after.shelf) after.volume)) }
+    ensures done { (a : _) → seat ≡ At a → OnOk result.1 (Does asked.entry payers (S.room a.shelf) (S.records a.shelf) a.volume) }
 {
     match seat {
         Seat::NoShelf => (Seat::NoShelf, not_run(rt, head, "no shelf is named")),
         Seat::Shut(fault) => (Seat::Shut(fault), refused(rt, head, fault)),
         Seat::Unwritten => (Seat::Unwritten, not_run(rt, head, UNWRITTEN)),
-        Seat::At(desk) => {
-            let (left, answer) = at_desk(rt, head, desk, file, asked, payers);
+        Seat::At(archive) => {
+            let (left, answer) = at_archive(rt, head, archive, file, asked, payers);
             (seat_of(left), answer)
         }
     }

@@ -4,8 +4,6 @@
 #[cfg(test)]
 mod checks;
 #[cfg(test)]
-mod desks;
-#[cfg(test)]
 mod examples;
 #[cfg(test)]
 mod fields;

@@ -1,15 +1,17 @@
 // The calls of a volume, on shelves that nothing else fills.
-use crate::desks::Desk;
 use crate::letters::{file_of, record, shelf_of};
 use crate::tokens::{
     close_and_fetch, close_both, fetch_from_both, take_in_and_fetch, take_in_on_both, take_in_two,
 };
+use archive::{Archive, NotLaid};
 use filing::{Opened, Standing, VolumeFault};
+use record::Bare;
 use refusal::Refusal;
 use shelf::{Joined, MemoryShelf, Shelf};
 use std::alloc::{AllocError, Global};
 use std::process::Abort;
 use std::test::Fail;
+use sums::Row;
 use volume::open;
 
 // A refusal with its number, layer, place and cause; behind 31 the file's refusal, entire.
@@ -41,36 +43,37 @@ enum Call<'a> {
     OpenAgain,
 }
 
-fn taken(heap: Global, answer: Option<Result<usize, VolumeFault>>) -> Result<String, AllocError> {
+fn taken(heap: Global, answer: Result<usize, NotLaid>) -> Result<String, AllocError> {
     match answer {
-        Some(Ok(entry)) => format!(in heap; "entry {entry}"),
-        Some(Err(fault)) => told(heap, fault),
-        None => String::from_str(heap, "no open volume"),
+        Ok(entry) => format!(in heap; "entry {entry}"),
+        Err(NotLaid::Refused(fault)) => told(heap, fault),
+        Err(NotLaid::Closed) => String::from_str(heap, "no open volume"),
     }
 }
 
 // Makes one call, and tells its answer: after closing and opening again what the token then says.
 fn make<S: Shelf + Drop>(
     heap: Global,
-    desk: Desk<S>,
+    mut archive: Archive<S>,
     call: Call<'_>,
-) -> Result<(Desk<S>, String), AllocError> {
+) -> Result<(Archive<S>, String), AllocError> {
     match call {
         Call::TakeIn(letters) => {
             let file = file_of(heap, letters)?;
-            let (desk, answer) = desk.take_in(&file);
+            let mut payers = [Row::zero()];
+            let answer = archive.take_in(&file, &Bare, &mut payers);
             let told = taken(heap, answer)?;
-            Ok((desk, told))
+            Ok((archive, told))
         }
         Call::Close => {
-            let desk = desk.close();
-            let told = found(heap, desk.found())?;
-            Ok((desk, told))
+            let (archive, _) = archive.close();
+            let told = found(heap, archive.opened())?;
+            Ok((archive, told))
         }
         Call::OpenAgain => {
-            let desk = desk.open_again();
-            let told = found(heap, desk.found())?;
-            Ok((desk, told))
+            let archive = archive.reopen();
+            let told = found(heap, archive.opened())?;
+            Ok((archive, told))
         }
     }
 }
@@ -81,14 +84,14 @@ fn play<S: Shelf + Drop>(
     heap: Global,
     shelf: S,
     calls: &[(Call<'_>, &str)],
-) -> Result<Desk<S>, Fail> {
-    let mut desk = Desk::open(shelf)?;
+) -> Result<Archive<S>, Fail> {
+    let mut archive = Archive::open(shelf)?;
     for (call, answer) in calls {
-        let (after, told) = make(heap, desk, *call)?;
+        let (after, told) = make(heap, archive, *call)?;
         assert_eq!(rt; told.as_str(), *answer);
-        desk = after;
+        archive = after;
     }
-    Ok(desk)
+    Ok(archive)
 }
 
 const ONE_PLACE: [(Call<'static>, &str); 4] = [
@@ -172,9 +175,9 @@ fn play_in_memory(
     records: &[u8],
 ) -> Result<(), Fail> {
     let mut bytes = shelf_of(heap, b"", places)?;
-    let desk = play(rt, heap, MemoryShelf::new(&mut bytes, 0), calls)?;
-    let said = found(heap, desk.found())?;
-    drop(desk);
+    let archive = play(rt, heap, MemoryShelf::new(&mut bytes, 0), calls)?;
+    let said = found(heap, archive.opened())?;
+    drop(archive);
     let shelf = MemoryShelf::new(&mut bytes, records.len());
     assert_eq!(rt; opened(heap, &shelf)?.as_str(), said.as_str());
     drop(shelf);
@@ -242,10 +245,15 @@ fn fetched(heap: Global, answer: Result<(), VolumeFault>) -> Result<String, Allo
 }
 
 // Fetches the records of an entry, and asserts that they are those of the letters.
-fn fetch_each<S: Shelf + Drop>(rt: &impl Abort, desk: &Desk<S>, entry: usize, records: &[u8]) {
+fn fetch_each<S: Shelf + Drop>(
+    rt: &impl Abort,
+    archive: &Archive<S>,
+    entry: usize,
+    records: &[u8],
+) {
     for (i, letter) in records.iter().enumerate() {
         let mut out = [b'#'; 80];
-        assert_eq!(rt; desk.fetch(entry, i + 1, &mut out), Ok(()));
+        assert_eq!(rt; archive.fetch(entry, i + 1, &mut out), Ok(()));
         assert_eq!(rt; out, *record(*letter));
     }
 }
@@ -270,10 +278,14 @@ const NOT_THERE: [(usize, usize); 10] = [
 ];
 
 // Asks for each of these, and asserts that 24 comes with the entry asked for and leaves the buffer.
-fn fetch_none<S: Shelf + Drop>(rt: &impl Abort, heap: Global, desk: &Desk<S>) -> Result<(), Fail> {
+fn fetch_none<S: Shelf + Drop>(
+    rt: &impl Abort,
+    heap: Global,
+    archive: &Archive<S>,
+) -> Result<(), Fail> {
     for (entry, number) in NOT_THERE {
         let mut out = [b'#'; 80];
-        let answer = desk.fetch(entry, number, &mut out);
+        let answer = archive.fetch(entry, number, &mut out);
         let words = format!(in heap; "24, volume, entry {entry}: no such entry or record")?;
         assert_eq!(rt; fetched(heap, answer)?.as_str(), words.as_str());
         assert_eq!(rt; out, [b'#'; 80]);
@@ -288,15 +300,15 @@ fn fetching(rt: HostRuntime) -> Result<(), Fail> {
     for calls in [2, 3] {
         assert!(rt; calls <= 3);
         let mut bytes = shelf_of(heap, b"", 18)?;
-        let desk = play(
+        let archive = play(
             &rt,
             heap,
             MemoryShelf::new(&mut bytes, 0),
             &TO_FETCH[..calls],
         )?;
-        fetch_each(&rt, &desk, 1, b"S7O8P9DEtc");
-        fetch_each(&rt, &desk, 2, b"GOPDE");
-        fetch_none(&rt, heap, &desk)?;
+        fetch_each(&rt, &archive, 1, b"S7O8P9DEtc");
+        fetch_each(&rt, &archive, 2, b"GOPDE");
+        fetch_none(&rt, heap, &archive)?;
     }
     Ok(())
 }
