@@ -3,10 +3,11 @@ use Rattle.std.specs.Prelude.{◌≡◌, ℕ, List, [], ◌∷◌, ⊤, String, 
 use Rattle.tifrozel.specs.declared.words.Command.{Command}
 use Rattle.tifrozel.specs.declared.words.Command.TheVariants as command
 use Rattle.tifrozel.specs.declared.requests.FileAsked.{FileAsked}
+use Rattle.tifrozel.specs.declared.requests.EntryAsked.{EntryAsked}
 use Rattle.tifrozel.specs.declared.requests.Request.{Request}
 use Rattle.tifrozel.specs.declared.requests.Request.TheVariants as request
 use Rattle.tifrozel.specs.declared.requests.AtShelf.TheVariants as shelf
-use Rattle.tifrozel.specs.Words.{AsksEdition, Writes}
+use Rattle.tifrozel.specs.Words.{AsksEdition, FirstWrites, SecondWrites, Writes}
 
 module _ {Z : Type 0} where
   -- the word behind the command
@@ -23,6 +24,15 @@ module _ {Z : Type 0} where
   AsksRecord (first ∷ entry ∷ number ∷ []) k n = Writes (string_bytes entry) k × Writes (string_bytes number) n
   AsksRecord words k n = ⊥
 
+  -- behind the command the number of an entry, and perhaps an edition
+  abbrev pub AsksEntry : List (String Z) → EntryAsked → Type 0
+  AsksEntry words a = SecondWrites words a.entry × AsksEdition words a.edition
+
+  -- behind the command the number of an entry, a file, and perhaps an edition
+  abbrev pub AsksCopy : List (String Z) → EntryAsked → List ℕ → Type 0
+  AsksCopy (first ∷ rest) a path = FirstWrites rest a.entry × (SecondIs rest path × AsksEdition rest a.edition)
+  AsksCopy [] a path = ⊥
+
   -- nothing stands behind the command
   abbrev pub AsksAlone : List (String Z) → Type 0
   AsksAlone (first ∷ []) = ⊤
@@ -35,5 +45,7 @@ module _ {Z : Type 0} where
   Asks command.TakeIn words (request.AtShelf (shelf.TakeIn f)) = AsksFile words f
   Asks command.Open words (request.AtShelf shelf.Open) = AsksAlone words
   Asks command.Close words (request.AtShelf shelf.Close) = AsksAlone words
+  Asks command.Show words (request.AtShelf (shelf.Show a)) = AsksEntry words a
   Asks command.Fetch words (request.AtShelf (shelf.Fetch k n)) = AsksRecord words k n
+  Asks command.Plain words (request.AtShelf (shelf.Plain a path)) = AsksCopy words a path.now
   Asks c words r = ⊥

@@ -5,7 +5,7 @@ use Rattle.tifrozel.specs.declared.words.EditionName.{EditionName}
 use Rattle.tifrozel.specs.declared.words.EditionName.TheVariants.{Bare, House}
 use Rattle.tifrozel.specs.declared.words.NoSuchEdition.{NoSuchEdition}
 use Rattle.tifrozel.specs.declared.words.Command.{Command}
-use Rattle.tifrozel.specs.declared.words.Command.TheVariants.{Read, Check, Open, TakeIn, Close, Fetch}
+use Rattle.tifrozel.specs.declared.words.Command.TheVariants.{Read, Check, Open, TakeIn, Close, Show, Fetch, Plain}
 use Rattle.tifrozel.specs.declared.words.NoSuchCommand.{NoSuchCommand}
 
 -- the word that names an edition
@@ -17,10 +17,10 @@ edition_word House = codes "house"
 abbrev pub IsEditionNamed : List ℕ → Result EditionName NoSuchEdition → Type 0
 IsEditionNamed word r = MatchResult r (λ e. word ≡ edition_word e) (λ _. (word ≢ codes "bare") × (word ≢ codes "house"))
 
--- behind a command and a file `under` and an edition's name, or nothing, which stands for the house edition
+-- behind a command and a word `under` and an edition's name, or nothing, which stands for the house edition
 abbrev pub AsksEdition : {Z : Type 0} → List (String Z) → EditionName → Type 0
-AsksEdition (first ∷ path ∷ []) e = e ≡ House
-AsksEdition (first ∷ path ∷ under ∷ name ∷ []) e = (string_bytes under ≡ codes "under") × (string_bytes name ≡ edition_word e)
+AsksEdition (first ∷ second ∷ []) e = e ≡ House
+AsksEdition (first ∷ second ∷ under ∷ name ∷ []) e = (string_bytes under ≡ codes "under") × (string_bytes name ≡ edition_word e)
 AsksEdition words e = ⊥
 
 -- the word that names a command
@@ -30,7 +30,9 @@ command_word Check = codes "check"
 command_word Open = codes "open"
 command_word TakeIn = codes "take-in"
 command_word Close = codes "close"
+command_word Show = codes "show"
 command_word Fetch = codes "fetch"
+command_word Plain = codes "plain"
 
 -- the answer is the command that the word names, or that it names none
 abbrev pub IsCommandNamed : List ℕ → Result Command NoSuchCommand → Type 0
@@ -38,12 +40,17 @@ IsCommandNamed word r =
     MatchResult
     r
     (λ c. word ≡ command_word c)
-    (λ _. (word ≢ codes "read") × ((word ≢ codes "check") × ((word ≢ codes "open") × ((word ≢ codes "take-in") × ((word ≢ codes "close") × (word ≢ codes "fetch"))))))
+    (λ _. (word ≢ codes "read") × ((word ≢ codes "check") × ((word ≢ codes "open") × ((word ≢ codes "take-in") × ((word ≢ codes "close") × ((word ≢ codes "show") × ((word ≢ codes "fetch") × (word ≢ codes "plain"))))))))
 
 -- a word writes a number: decimal digits, perhaps behind a plus, of less than 2 ^ 64
 abbrev pub Writes : List ℕ → ℕ → Type 0
 Writes word n =
     let digits = without_leading_plus word in IsNumeral 10 digits × ((digits_value 10 digits < 2 ^ 64) × (n ≡ digits_value 10 digits))
+
+-- the first of the words writes this number
+abbrev pub FirstWrites : {Z : Type 0} → List (String Z) → ℕ → Type 0
+FirstWrites [] n = ⊥
+FirstWrites (first ∷ rest) n = Writes (string_bytes first) n
 
 -- the words begin with this one
 abbrev pub BeginWith : {Z : Type 0} → List ℕ → List (String Z) → Type 0

@@ -44,6 +44,12 @@ pub fn tell(rt: &HostRuntime, head: &str, answer: Done) -> Done
     }
 }
 
+// What a command did.
+pub fn say<W: fmt::Display + Drop>(rt: &HostRuntime, head: &str, done: W) -> Done {
+    println!(rt; "{head}: {done}")?;
+    Ok(())
+}
+
 // A command that cannot run says why. `head` is the command's words without its edition, here and below.
 pub fn not_run<W: fmt::Display + Drop>(rt: &HostRuntime, head: &str, why: W) -> Done
     ensures { is_ok result ≡ false }
@@ -107,6 +113,26 @@ pub fn records(many: usize) -> Counted
         many,
         one: "record",
         more: "records",
+    }
+}
+
+pub fn rows(many: usize) -> Counted
+    ensures { result.many ≡ many }
+{
+    Counted {
+        many,
+        one: "row",
+        more: "rows",
+    }
+}
+
+pub fn bytes(many: usize) -> Counted
+    ensures { result.many ≡ many }
+{
+    Counted {
+        many,
+        one: "byte",
+        more: "bytes",
     }
 }
 

@@ -1,11 +1,12 @@
-// A shelf's file: read once, and put whole in the place of the old one after each call that lays something.
+// Files on disk: a shelf's file, read once, and put whole in the place of the old one after each call that lays something; and new
+// files, which take no other's place.
 ghost use Rattle.std.specs.Prelude.{◌≡◌, ◌≤◌, IfOk};
 ghost use Rattle.tifrozel.specs.Places.{with_places};
 
 use std::alloc::{AllocError, Global};
 use std::fs::File;
 use std::io::{Error, ErrorKind, Write};
-use std::{fs, io};
+use std::{fs, io, process};
 
 // The bytes of a shelf's file; none where it is not there.
 pub fn read_shelf(rt: &HostRuntime, path: &str) -> io::Result<Vec<u8>> {
@@ -79,9 +80,56 @@ pub fn replace(rt: &HostRuntime, path: &str, known: usize, bytes: &[u8]) -> io::
     folder.sync_all()
 }
 
+// What came of writing a new file.
+#[derive(Clone, Copy, Debug, PartialEq, Eq)]
+pub enum Created {
+    New,
+    // something has its name already, and was left as it is
+    There,
+}
+
+// Writes the bytes to a file that has just been made, and gives it this name as well, unless something has that name.
+fn write_and_name(
+    rt: &HostRuntime,
+    mut file: File,
+    beside: &str,
+    path: &str,
+    bytes: &[u8],
+) -> io::Result<Created> {
+    file.write_all(bytes)?;
+    file.sync_all()?;
+    match fs::hard_link(rt, beside, path) {
+        Ok(()) => Ok(Created::New),
+        Err(e) if e.kind() == ErrorKind::AlreadyExists => Ok(Created::There),
+        Err(e) => Err(e),
+    }
+}
+
+// Writes a new file with these bytes, whole or not at all: written under a name of this process's own, synced, and only then given
+// its name as well. Whether something has that name is asked first, so that nothing is written in vain; but it is the giving that
+// fails then, also where it is a link that leads nowhere, and so nothing is lost that came meanwhile.
+pub fn create(rt: &HostRuntime, path: &str, bytes: &[u8]) -> io::Result<Created> {
+    if fs::symlink_metadata(rt, path).is_ok() {
+        return Ok(Created::There);
+    }
+    let name = folder_of(path);
+    let folder = File::open(rt, name)?;
+    let id = process::id(rt.process());
+    let beside = format!(in rt.alloc(); "{name}/{UNFINISHED}-{id}")?;
+    let beside = beside.as_str();
+    let file = File::create_new(rt, beside)?;
+    let created = write_and_name(rt, file, beside, path, bytes);
+    // where this fails the file is whole all the same
+    let _ = fs::remove_file(rt, beside);
+    let created = created?;
+    folder.sync_all()?;
+    Ok(created)
+}
+
 #[cfg(test)]
 mod tests {
-    use super::{read_shelf, replace};
+    use super::{Created, create, read_shelf, replace};
+    use std::os::unix::fs::symlink;
     use std::{env, fs, io, process};
 
     // What was written is read back whole, a second writing takes the place of the first, and one that knows the file
@@ -101,6 +149,83 @@ mod tests {
         fs::remove_file(&rt, path)?;
         assert_eq!(rt; bytes.len(), 160);
         assert!(rt; bytes.iter().all(|byte| *byte == b'2'));
+        Ok(())
+    }
+
+    // A folder of this test's own, new and empty.
+    fn fresh_folder(rt: &HostRuntime, name: &str) -> io::Result<String> {
+        let folder = env::temp_dir(rt)?;
+        let folder = folder.as_str();
+        let id = process::id(rt.process());
+        let path = format!(in rt.alloc(); "{folder}/tifrozel-{name}-{id}")?;
+        fs::create_dir(rt, path.as_str())?;
+        Ok(path)
+    }
+
+    // A new file has all the bytes, and nothing is left beside it.
+    #[test]
+    fn new_file(rt: HostRuntime) -> io::Result<()> {
+        let folder = fresh_folder(&rt, "new")?;
+        let folder = folder.as_str();
+        let path = format!(in rt.alloc(); "{folder}/copy")?;
+        let path = path.as_str();
+        assert_eq!(rt; create(&rt, path, &[b'1'; 164])?, Created::New);
+        let bytes = fs::read(&rt, path)?;
+        fs::remove_file(&rt, path)?;
+        fs::remove_dir(&rt, folder)?;
+        assert_eq!(rt; bytes.as_slice(), [b'1'; 164].as_slice());
+        Ok(())
+    }
+
+    // What has the name is left as it was, a folder too, and nothing is left beside it.
+    #[test]
+    fn name_taken(rt: HostRuntime) -> io::Result<()> {
+        let folder = fresh_folder(&rt, "taken")?;
+        let folder = folder.as_str();
+        let path = format!(in rt.alloc(); "{folder}/copy")?;
+        let path = path.as_str();
+        assert_eq!(rt; create(&rt, path, b"first")?, Created::New);
+        assert_eq!(rt; create(&rt, path, b"second")?, Created::There);
+        assert_eq!(rt; create(&rt, folder, b"second")?, Created::There);
+        let bytes = fs::read(&rt, path)?;
+        fs::remove_file(&rt, path)?;
+        fs::remove_dir(&rt, folder)?;
+        assert_eq!(rt; bytes.as_slice(), b"first".as_slice());
+        Ok(())
+    }
+
+    // A link is left as it was, and so is what it leads to, or that there is nothing.
+    #[test]
+    fn link_taken(rt: HostRuntime) -> io::Result<()> {
+        let folder = fresh_folder(&rt, "link")?;
+        let folder = folder.as_str();
+        let path = format!(in rt.alloc(); "{folder}/copy")?;
+        let path = path.as_str();
+        let link = format!(in rt.alloc(); "{folder}/link")?;
+        let link = link.as_str();
+        symlink(&rt, path, link)?;
+        assert_eq!(rt; create(&rt, link, b"second")?, Created::There);
+        assert!(rt; !fs::exists(&rt, path)?);
+        assert_eq!(rt; create(&rt, path, b"first")?, Created::New);
+        assert_eq!(rt; create(&rt, link, b"second")?, Created::There);
+        assert!(rt; fs::symlink_metadata(&rt, link)?.is_symlink());
+        let bytes = fs::read(&rt, path)?;
+        fs::remove_file(&rt, link)?;
+        fs::remove_file(&rt, path)?;
+        fs::remove_dir(&rt, folder)?;
+        assert_eq!(rt; bytes.as_slice(), b"first".as_slice());
+        Ok(())
+    }
+
+    // Where there is no such folder, the file cannot be written.
+    #[test]
+    fn no_folder(rt: HostRuntime) -> io::Result<()> {
+        let folder = fresh_folder(&rt, "none")?;
+        let folder = folder.as_str();
+        let path = format!(in rt.alloc(); "{folder}/none/copy")?;
+        let created = create(&rt, path.as_str(), b"first");
+        fs::remove_dir(&rt, folder)?;
+        assert!(rt; created.is_err());
         Ok(())
     }
 }

@@ -8,6 +8,7 @@ mod checks;
 mod disk;
 mod files;
 mod listing;
+mod reading;
 mod requests;
 mod shelves;
 mod show;

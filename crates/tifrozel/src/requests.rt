@@ -1,8 +1,9 @@
 // What the words of a command ask for.
-ghost use Rattle.std.specs.Prelude.{MatchOption};
+ghost use Rattle.std.specs.Prelude.{MatchOption, ℕ, List};
 ghost use Rattle.tifrozel.specs.declared.requests.FileAsked.{FileAsked};
+ghost use Rattle.tifrozel.specs.declared.requests.EntryAsked.{EntryAsked};
 ghost use Rattle.tifrozel.specs.declared.requests.Request.{Request};
-ghost use Rattle.tifrozel.specs.Requests.{Asks, AsksFile};
+ghost use Rattle.tifrozel.specs.Requests.{Asks, AsksCopy, AsksEntry, AsksFile};
 
 use crate::words::{Command, EditionName, edition_asked};
 use std::fmt;
@@ -14,13 +15,22 @@ pub struct FileAsked<'a> {
     pub edition: EditionName,
 }
 
+// An entry, and the edition that it is read under.
+#[derive(Clone, Copy, Debug, PartialEq, Eq)]
+pub struct EntryAsked {
+    pub entry: usize,
+    pub edition: EditionName,
+}
+
 // What is asked at a shelf.
 #[derive(Clone, Copy)]
 pub enum AtShelf<'a> {
     Open,
     TakeIn(FileAsked<'a>),
     Close,
+    Show(EntryAsked),
     Fetch { entry: usize, number: usize },
+    Plain { asked: EntryAsked, path: &'a str },
 }
 
 #[derive(Clone, Copy)]
@@ -30,14 +40,16 @@ pub enum Request<'a> {
     AtShelf(AtShelf<'a>),
 }
 
-// The command's words without its edition.
+// The command's words without its edition, and without the file that it writes.
 impl fmt::Display for AtShelf<'_> {
     fn fmt<W: fmt::Write>(&self, f: &mut fmt::Formatter<W>) -> fmt::Result {
         match *self {
             AtShelf::Open => write!(f, "{}", Command::Open),
             AtShelf::TakeIn(asked) => write!(f, "{} {}", Command::TakeIn, asked.path),
             AtShelf::Close => write!(f, "{}", Command::Close),
+            AtShelf::Show(asked) => write!(f, "{} {}", Command::Show, asked.entry),
             AtShelf::Fetch { entry, number } => write!(f, "{} {entry} {number}", Command::Fetch),
+            AtShelf::Plain { asked, .. } => write!(f, "{} {}", Command::Plain, asked.entry),
         }
     }
 }
@@ -63,6 +75,25 @@ fn file_asked(words: &[String]) -> Option<FileAsked<'_>>
     })
 }
 
+// The entry and the edition of `COMMAND ENTRY [under EDITION]`.
+fn entry_asked(words: &[String]) -> Option<EntryAsked>
+    ensures { MatchOption result ((a : EntryAsked) → ¬ (AsksEntry words.now a)) (λ a. AsksEntry words.now a) }
+{
+    let edition = edition_asked(words)?;
+    let entry = words[1].as_str().parse().ok()?;
+    Some(EntryAsked { entry, edition })
+}
+
+// The entry, the edition and the file of `COMMAND ENTRY FILE [under EDITION]`.
+fn copy_asked(words: &[String]) -> Option<(EntryAsked, &str)>
+    ensures { MatchOption result ((a : EntryAsked) (path : List ℕ) → ¬ (AsksCopy words.now a path)) (λ r. AsksCopy words.now r.0 r.1.now) }
+{
+    let (_, rest) = words.split_first()?;
+    let edition = edition_asked(rest)?;
+    let entry = rest[0].as_str().parse().ok()?;
+    Some((EntryAsked { entry, edition }, rest[1].as_str()))
+}
+
 // What is asked of the command by its words; none where they are not put as it wants them.
 pub fn request_of<'a>(command: Command, words: &'a [String]) -> Option<Request<'a>>
     ensures { MatchOption result ((r : Request) → ¬ (Asks command words.now r)) (λ r. Asks command words.now r) }
@@ -73,10 +104,15 @@ pub fn request_of<'a>(command: Command, words: &'a [String]) -> Option<Request<'
         (Command::TakeIn, _) => Some(Request::AtShelf(AtShelf::TakeIn(file_asked(words)?))),
         (Command::Open, [_]) => Some(Request::AtShelf(AtShelf::Open)),
         (Command::Close, [_]) => Some(Request::AtShelf(AtShelf::Close)),
+        (Command::Show, _) => Some(Request::AtShelf(AtShelf::Show(entry_asked(words)?))),
         (Command::Fetch, [_, entry, number]) => Some(Request::AtShelf(AtShelf::Fetch {
             entry: entry.as_str().parse().ok()?,
             number: number.as_str().parse().ok()?,
         })),
+        (Command::Plain, _) => {
+            let (asked, path) = copy_asked(words)?;
+            Some(Request::AtShelf(AtShelf::Plain { asked, path }))
+        }
         _ => None,
     }
 }

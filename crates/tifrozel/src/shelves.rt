@@ -1,16 +1,14 @@
-// The commands at a shelf: `open`, `take-in`, `close` and `fetch`.
+// The commands at a shelf, and those that lay something on it: `take-in` and `close`.
 ghost use Rattle.std.specs.Prelude.{◌≡◌, ◌⊎◌, ⊤, true, false, length, is_ok, IfOk, OnOk, IsSomeAnd, MatchOption, MatchResult};
-ghost use Rattle.filing.specs.Volumes.{entries_of};
-ghost use Rattle.volume.specs.Taking.{fetched};
 ghost use Rattle.filing.specs.declared.faults.VolumeFault.{VolumeFault};
 ghost use Rattle.tifrozel.specs.declared.shelves.Seat.TheVariants.{NoShelf, At, Shut, Unwritten};
 ghost use Rattle.archive.specs.Archives.{closing_answer};
 ghost use Rattle.tifrozel.specs.Commands.{Does, Kept, Lays, Leaves, LeavesTaking, LeavesClosing, file_answer};
 
-use crate::answers::{Done, Undone, bytes_of, entries, not_run, refused};
+use crate::answers::{Done, Undone, bytes_of, entries, not_run, refused, say};
 use crate::disk::replace;
+use crate::reading::{fetch, plain, show};
 use crate::requests::{AtShelf, FileAsked};
-use crate::show::RecordLine;
 use crate::words::EditionName;
 use archive::{Archive, NotLaid};
 use filing::{Standing, VolumeFault};
@@ -43,11 +41,6 @@ const UNWRITTEN: &str =
 pub struct ShelfFile<'a> {
     pub path: &'a str,
     pub size: usize,
-}
-
-fn say<W: fmt::Display + Drop>(rt: &HostRuntime, head: &str, done: W) -> Done {
-    println!(rt; "{head}: {done}")?;
-    Ok(())
 }
 
 // Puts what stands in the archive into the shelf's file.
@@ -161,25 +154,6 @@ fn close<S: Shelf + Drop>(
     }
 }
 
-fn fetch<S: Shelf + Drop>(
-    rt: &HostRuntime,
-    head: &str,
-    archive: &Archive<S>,
-    entry: usize,
-    number: usize,
-) -> Done
-    ensures { OnOk result (is_ok (fetched entry number (entries_of (S.records archive.now.shelf))) ≡ true) }
-{
-    let mut record = [0u8; 80];
-    if let Err(fault) = archive.fetch(entry, number, &mut record) {
-        return refused(rt, head, fault);
-    }
-    let line = RecordLine(record);
-    println!(rt; "{head}:")?;
-    print!(rt; "{line}")?;
-    Ok(())
-}
-
 // Runs a command at an archive.
 fn at_archive<S: Shelf + Drop>(
     rt: &HostRuntime,
@@ -203,6 +177,14 @@ fn at_archive<S: Shelf + Drop>(
         AtShelf::Fetch { entry, number } => {
             let fetched = fetch(rt, head, &archive, entry, number);
             (Some(archive), fetched)
+        }
+        AtShelf::Show(asked) => {
+            let shown = show(rt, head, &archive, asked);
+            (Some(archive), shown)
+        }
+        AtShelf::Plain { asked, path } => {
+            let copied = plain(rt, head, &archive, asked, path);
+            (Some(archive), copied)
         }
     }
 }

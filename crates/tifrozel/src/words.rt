@@ -60,7 +60,9 @@ pub enum Command {
     Open,
     TakeIn,
     Close,
+    Show,
     Fetch,
+    Plain,
 }
 
 impl fmt::Display for Command {
@@ -71,7 +73,9 @@ impl fmt::Display for Command {
             Command::Open => "open",
             Command::TakeIn => "take-in",
             Command::Close => "close",
+            Command::Show => "show",
             Command::Fetch => "fetch",
+            Command::Plain => "plain",
         })
     }
 }
@@ -88,7 +92,9 @@ impl fmt::Display for Form {
                 write!(f, "write {command} FILE [under bare|house]")
             }
             Command::Open | Command::Close => write!(f, "write {command} alone"),
+            Command::Show => write!(f, "write {command} ENTRY [under bare|house], a number"),
             Command::Fetch => write!(f, "write {command} ENTRY RECORD, two numbers"),
+            Command::Plain => write!(f, "write {command} ENTRY FILE [under bare|house]"),
         }
     }
 }
@@ -109,13 +115,15 @@ impl FromStr for Command {
             "open" => Ok(Command::Open),
             "take-in" => Ok(Command::TakeIn),
             "close" => Ok(Command::Close),
+            "show" => Ok(Command::Show),
             "fetch" => Ok(Command::Fetch),
+            "plain" => Ok(Command::Plain),
             _ => Err(NoSuchCommand),
         }
     }
 }
 
-// The edition that `COMMAND FILE [under EDITION]` asks for; none where the words are not so put.
+// The edition that `COMMAND WORD [under EDITION]` asks for; none where the words are not so put.
 pub fn edition_asked(words: &[String]) -> Option<EditionName>
     ensures words { is_some result ≡ true → 2 ≤ length words.now }
     ensures edition { MatchOption result ((e : EditionName) → ¬ (AsksEdition words.now e)) (λ e. AsksEdition words.now e) }
