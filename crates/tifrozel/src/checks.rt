@@ -9,7 +9,8 @@ use record::{Edition, End};
 use std::alloc::{AllocError, Global};
 use sums::Row;
 
-// What checking the file answers, with a table of so many payers.
+// What checking the file answers, with a table of so many payers. It is not inlined, so that bench/ can count it by itself.
+#[inline(never)]
 pub fn checked<E: Edition>(
     heap: Global,
     bytes: &[u8],

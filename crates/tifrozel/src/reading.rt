@@ -25,7 +25,8 @@ const NO_ROW: Row = Row {
     reference: ReferenceForm::Absent,
 };
 
-// The rows of an entry, from a table with a row for each of its records.
+// The rows of an entry, from a table with a row for each of its records. It is not inlined, so that bench/ can count it by itself.
+#[inline(never)]
 fn entry_rows<S: Shelf + Drop, E: Edition>(
     heap: Global,
     archive: &Archive<S>,
@@ -45,7 +46,9 @@ fn entry_rows<S: Shelf + Drop, E: Edition>(
     }
 }
 
-// The bytes of an entry's plain copy, from a buffer with a line for each of its records.
+// The bytes of an entry's plain copy, from a buffer with a line for each of its records. It is not inlined, so that bench/ can count
+// it by itself.
+#[inline(never)]
 fn entry_copy<S: Shelf + Drop, E: Edition>(
     heap: Global,
     archive: &Archive<S>,
@@ -65,6 +68,17 @@ fn entry_copy<S: Shelf + Drop, E: Edition>(
     }
 }
 
+// The rows as lines, one for each, to be printed at once.
+fn lines_of(heap: Global, rows: &[Row]) -> Result<String, AllocError> {
+    let mut lines = String::new(heap);
+    for row in rows {
+        let row = RowLine(*row);
+        let line = format!(in heap; "{row}")?;
+        lines.push_str(line.as_str())?;
+    }
+    Ok(lines)
+}
+
 pub fn show<S: Shelf + Drop>(
     rt: &HostRuntime,
     head: &str,
@@ -76,11 +90,10 @@ pub fn show<S: Shelf + Drop>(
     match entry_rows(rt.alloc(), archive, asked.entry, &asked.edition)? {
         Ok(table) => {
             let many = rows(table.len());
+            let lines = lines_of(rt.alloc(), &table)?;
+            let lines = lines.as_str();
             println!(rt; "{head}: {many}")?;
-            for row in &table {
-                let line = RowLine(*row);
-                print!(rt; "{line}")?;
-            }
+            print!(rt; "{lines}")?;
             Ok(())
         }
         Err(fault) => refused(rt, head, fault),
