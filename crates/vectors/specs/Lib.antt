@@ -1,2 +1,3 @@
 pub mod Alike
+pub mod Sevens
 pub mod Told

@@ -3,7 +3,7 @@ use crate::examples::{DEPOSIT, END, OPENING, PAYMENT, START, UNKNOWN};
 use std::alloc::{AllocError, Global};
 
 // Each letter, and its record; any other letter is the unknown record of examples.rt.
-const RECORDS: [(u8, &[u8; 80]); 38] = [
+const RECORDS: [(u8, &[u8; 80]); 58] = [
     // F and the unknown record of examples.rt
     (b'S', START),
     (b'O', OPENING),
@@ -155,6 +155,92 @@ const RECORDS: [(u8, &[u8; 80]); 38] = [
         b'h',
         b"98000000010000000700000000000000000000000000000000000000000000000000000000000094",
     ),
+    // riders of the house edition that are well formed: 40, and 41; and a 41 that is not
+    (
+        b'A',
+        b"4020310402 as it stands                                                        .",
+    ),
+    (
+        b'B',
+        b"410000000001 as it stands                                                      .",
+    ),
+    (
+        b'C',
+        b"41000000000x                                                                    ",
+    ),
+    // the other kinds of an item, each with text up to its last field's end: information, name, address 1 and 2, company
+    // number
+    (
+        b'i',
+        b"25information                                      !                            ",
+    ),
+    (
+        b'n',
+        b"26name                                                                 !        ",
+    ),
+    (
+        b'j',
+        b"27street                             12345678!                                  ",
+    ),
+    (
+        b'k',
+        b"28town                               country                            SE      ",
+    ),
+    (
+        b'l',
+        b"29123456789012                                                                  ",
+    ),
+    // a payment with code 0 and the highest numbers, three extra references of it with codes 2, 4 and 5, and its deposit
+    (
+        b'H',
+        b"209999999999                         000009999999999999009999999999990          ",
+    ),
+    (
+        b'I',
+        b"229999999999                        7000000000000000001209999999999990          ",
+    ),
+    (
+        b'J',
+        b"239999999999A                        000000000000000002409999999999990          ",
+    ),
+    (
+        b'K',
+        b"229999999999                         000000000000000000509999999999990          ",
+    ),
+    (
+        b'L',
+        b"15111111111111111111111111111111111112032022912345000009999999999999SEK00000001K",
+    ),
+    // payments and deductions with codes 1, 2, 3, 4 and 5, their deposit in EUR behind the payment of F, and the end of a
+    // file of both sections
+    (
+        b'V',
+        b"200000000815                         000000000000000018100000000000180          ",
+    ),
+    (
+        b'Y',
+        b"2000000008151234567890123456789012345000000000000000005200000000000190          ",
+    ),
+    (
+        b'M',
+        b"210000000815                         0000000000000000073000000000002000         ",
+    ),
+    (
+        b'N',
+        b"200000000815\xa0                        000000000000000000400000000000000          ",
+    ),
+    (
+        b'F',
+        b"210000000815found wrong              0000000000000000255000000000002102         ",
+    ),
+    (
+        b'r',
+        b"15000000000000000000000000000000000002031040299999000000000000124991EUR00000006 ",
+    ),
+    (
+        b's',
+        b"7000000005000000020000000300000002                                              ",
+    ),
 ];
 
 pub(crate) fn record(letter: u8) -> &'static [u8; 80] {
@@ -166,10 +252,15 @@ pub(crate) fn record(letter: u8) -> &'static [u8; 80] {
 
 // A file, each record with LF.
 pub(crate) fn file_of(heap: Global, letters: &[u8]) -> Result<Vec<u8>, AllocError> {
+    lines_of(heap, letters, b"\n")
+}
+
+// A file, each record with this line end.
+pub(crate) fn lines_of(heap: Global, letters: &[u8], end: &[u8]) -> Result<Vec<u8>, AllocError> {
     let mut bytes = Vec::new(heap);
     for letter in letters {
         bytes.extend_from_slice(record(*letter))?;
-        bytes.push(b'\n')?;
+        bytes.extend_from_slice(end)?;
     }
     Ok(bytes)
 }

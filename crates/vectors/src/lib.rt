@@ -4,6 +4,8 @@
 #[cfg(test)]
 mod checks;
 #[cfg(test)]
+mod copies;
+#[cfg(test)]
 mod examples;
 #[cfg(test)]
 mod fields;
@@ -12,9 +14,13 @@ mod files;
 #[cfg(test)]
 mod letters;
 #[cfg(test)]
+mod readings;
+#[cfg(test)]
 mod records;
 #[cfg(test)]
 mod shelves;
+#[cfg(test)]
+mod showings;
 #[cfg(test)]
 mod strangers;
 #[cfg(test)]

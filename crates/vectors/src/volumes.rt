@@ -37,7 +37,7 @@ pub(crate) fn opened<S: Shelf>(heap: Global, shelf: &S) -> Result<String, AllocE
 
 // A call with what it brings: a file, by its letters.
 #[derive(Clone, Copy)]
-enum Call<'a> {
+pub(crate) enum Call<'a> {
     TakeIn(&'a [u8]),
     Close,
     OpenAgain,
@@ -79,7 +79,7 @@ fn make<S: Shelf + Drop>(
 }
 
 // Makes the calls one after the other, from an opening on, and asserts what each answers.
-fn play<S: Shelf + Drop>(
+pub(crate) fn play<S: Shelf + Drop>(
     rt: &impl Abort,
     heap: Global,
     shelf: S,
@@ -212,7 +212,7 @@ fn entries_as_they_are(rt: HostRuntime) -> Result<(), Fail> {
     Ok(())
 }
 
-fn pair_over<'a>(
+pub(crate) fn pair_over<'a>(
     front: &'a mut [u8],
     back: &'a mut [u8],
 ) -> Joined<MemoryShelf<'a>, MemoryShelf<'a>> {
