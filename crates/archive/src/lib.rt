@@ -1,7 +1,8 @@
 // A shelf and the volume on it, in one hand: every call finds the token that is the shelf's own.
 #![tactic(auto)]
 
-ghost use Rattle.std.specs.Prelude.{◌≡◌, ◌-◌, ◌≤◌, [], length, IfOk, IfErr, IfSome, Ok, Err, slice_index_or};
+ghost use Rattle.std.specs.Prelude.{◌≡◌, ℕ, ◌+◌, ◌-◌, ◌≤◌, [], length, IfOk, IfErr, IfSome, Ok, Err, slice_index_or};
+ghost use Rattle.std.specs.List.{between};
 ghost use Rattle.manual.specs.Judging.{check_of};
 ghost use Rattle.manual.specs.Laws.{judging};
 ghost use Rattle.manual.specs.Slots.{slots, front};
@@ -163,6 +164,7 @@ impl<S: Shelf + Drop> Archive<S> {
     pub fn records_of(&self, entry: usize) -> Option<usize>
         ensures records { result ≡ records_in entry (entries_of (S.records self.now.shelf)) }
         ensures few { IfSome result (λ many. many ≤ 500000) }
+        ensures run { IfSome result (λ many. (before : ℕ) × (slice_index_or (entries_of (S.records self.now.shelf)) (entry - 1) [] ≡ between before (before + many) (S.records self.now.shelf))) }
     {
         let opened = self.opened();
         if is_among(entry, opened.entries) {

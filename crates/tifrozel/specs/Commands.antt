@@ -1,6 +1,7 @@
 -- What the commands at a shelf leave of its records and of its volume, and when they may be said to be done. What they print, and what is in a file that they
 -- read, no term can say.
-use Rattle.std.specs.Prelude.{◌≡◌, ℕ, ◌*◌, ◌⊎◌, List, true, is_ok, unwrap_or, Result, ⊤}
+use Rattle.std.specs.Prelude.{◌≡◌, ℕ, ◌⊎◌, List, true, is_ok, unwrap_or, Ok, Result, ⊤}
+use Rattle.field.specs.Chains.{then}
 use Rattle.record.specs.declared.rows.Row.{Row}
 use Rattle.record.specs.Editions.{Meaning}
 use Rattle.manual.specs.Slots.{front}
@@ -9,7 +10,9 @@ use Rattle.manual.specs.Laws.{judging}
 use Rattle.manual.specs.Slots.{slots}
 use Rattle.filing.specs.declared.faults.VolumeFault.{VolumeFault}
 use Rattle.filing.specs.Volumes.{Records, entries_of}
-use Rattle.showing.specs.Showing.{shown, copying}
+use Rattle.report.specs.Copies.{copied}
+use Rattle.report.specs.Rows.{rows_of}
+use Rattle.showing.specs.Showing.{passed}
 use Rattle.volume.specs.Taking.{fetched}
 use Rattle.volume.specs.declared.tokens.Volume.{Volume}
 use Rattle.archive.specs.declared.NotLaid.{NotLaid}
@@ -50,13 +53,13 @@ LeavesClosing rs v after w = (after ≡ closing_records v rs) × (w ≡ closing_
 abbrev pub rows_for : ℕ → List Records → ℕ
 rows_for k es = unwrap_or (records_in k es) 0
 
--- the rows of entry k under an edition, in a table of so many, or why it is not shown
+-- the rows of entry k under an edition, or why it is not shown: never that the table is short, as it has a row for each record
 abbrev pub entry_rows : Meaning → ℕ → List Records → Result (List Row) VolumeFault
-entry_rows m k es = shown m k (rows_for k es) es
+entry_rows m k es = then (passed m k es) (λ e. Ok (rows_of m e))
 
--- the bytes of its plain copy, in a buffer of 82 bytes a record, or why it is not copied
+-- the bytes of its plain copy, or why it is not copied
 abbrev pub entry_copy : Meaning → ℕ → List Records → Result (List ℕ) VolumeFault
-entry_copy m k es = copying m k (82 * rows_for k es) es
+entry_copy m k es = then (passed m k es) (λ e. Ok (copied m e))
 
 -- a command, with so many rows for payers, in an archive with this limit: taking in leaves what taking in the
 -- bytes that were read leaves, under the edition that was asked for, or nothing is changed where they could not be read; but for closing the
