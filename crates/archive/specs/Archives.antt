@@ -49,5 +49,5 @@ closing_volume (volume.Open t) = volume.Closed (record { entries = t.entries; la
 closing_volume (volume.Closed t) = volume.Closed t
 
 -- how many records entry k has; none where there is no such entry
-abbrev pub records_in : ℕ → List Records → Option ℕ
-records_in k es = cond (numbered_in k (length es)) (Some (length (slice_index_or es (k - 1) []))) None
+abbrev pub record_count : ℕ → List Records → Option ℕ
+record_count k es = cond (numbered_in k (length es)) (Some (length (slice_index_or es (k - 1) []))) None

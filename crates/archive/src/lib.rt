@@ -7,7 +7,7 @@ ghost use Rattle.manual.specs.Judging.{check_of};
 ghost use Rattle.manual.specs.Laws.{judging};
 ghost use Rattle.manual.specs.Slots.{slots, front};
 ghost use Rattle.shelf.specs.Records.{flat};
-ghost use Rattle.filing.specs.Refusals.{RefusedBy, of_showing, of_copying};
+ghost use Rattle.filing.specs.Refusals.{RefusedBy, of_opening, of_fetching, of_showing, of_copying};
 ghost use Rattle.filing.specs.Volumes.{entries_of};
 ghost use Rattle.volume.specs.Taking.{fetched, fetch_answer, fetch_bytes};
 ghost use Rattle.volume.specs.Tokens.{Own, found_on, says, with_token};
@@ -15,7 +15,7 @@ ghost use Rattle.report.specs.Listing.{RowsStand};
 ghost use Rattle.report.specs.Stands.{CopyStands};
 ghost use Rattle.showing.specs.Riders.{ReadsEntry};
 ghost use Rattle.showing.specs.Showing.{shown, copying, how_many, filled_in};
-ghost use Rattle.archive.specs.Archives.{taking_answer, taking_records, taking_volume, closing_answer, closing_records, closing_volume, records_in};
+ghost use Rattle.archive.specs.Archives.{taking_answer, taking_records, taking_volume, closing_answer, closing_records, closing_volume, record_count};
 
 use filing::{Opened, VolumeFault};
 use record::{Edition, Row};
@@ -27,11 +27,13 @@ use volume::{Volume, close, fetch, find_trailer, is_among, open, open_again, tak
 /// Why nothing was laid on the shelf.
 #[derive(Clone, Copy, Debug, PartialEq, Eq)]
 pub enum NotLaid {
-    // the volume is closed
+    /// The volume is closed.
     Closed,
+    /// The volume's call refused.
     Refused(VolumeFault),
 }
 
+/// A shelf, and the token of the volume on it, which is the shelf's own.
 #[derive(Drop)]
 pub struct Archive<S: Shelf> {
     shelf: S,
@@ -46,6 +48,7 @@ impl<S: Shelf + Drop> Archive<S> {
         ensures shelf { IfOk result (λ a. a.shelf ≡ shelf) }
         ensures volume { IfOk result (λ a. Ok a.volume ≡ with_token (found_on (S.records shelf) (S.room shelf))) }
         ensures refused { IfErr result (λ e. found_on (S.records shelf) (S.room shelf) ≡ Err e) }
+        ensures refusals { RefusedBy of_opening result }
     {
         let volume = open(&shelf)?;
         Ok(Archive { shelf, volume })
@@ -122,6 +125,7 @@ impl<S: Shelf + Drop> Archive<S> {
     pub fn fetch(&self, entry: usize, number: usize, out: &mut [u8; 80]) -> Result<(), VolumeFault>
         ensures answer { result ≡ fetch_answer (fetched entry number (entries_of (S.records self.now.shelf))) }
         ensures buffer { out.new ≡ fetch_bytes (fetched entry number (entries_of (S.records self.now.shelf))) out.old }
+        ensures refusals { RefusedBy of_fetching result }
     {
         fetch(&self.shelf, &self.volume, entry, number, out)
     }
@@ -143,8 +147,8 @@ impl<S: Shelf + Drop> Archive<S> {
         show(&self.shelf, &self.volume, entry, edition, rows)
     }
 
-    /// Writes an entry without what an edition does not know, 82 bytes a record, and answers how many bytes. Later bytes stay as
-    /// they were, and a refusal leaves all of them so.
+    /// Writes the plain copy of an entry, read under an edition: each core record with its reserve positions blank and each rider as
+    /// it stands, 82 bytes a record, and answers how many bytes. Later bytes stay as they were, and a refusal leaves all of them so.
     pub fn plain_copy<E: Edition>(
         &self,
         entry: usize,
@@ -162,7 +166,7 @@ impl<S: Shelf + Drop> Archive<S> {
 
     /// How many records an entry has: so many rows are enough to show it.
     pub fn records_of(&self, entry: usize) -> Option<usize>
-        ensures records { result ≡ records_in entry (entries_of (S.records self.now.shelf)) }
+        ensures records { result ≡ record_count entry (entries_of (S.records self.now.shelf)) }
         ensures few { IfSome result (λ many. many ≤ 500000) }
         ensures run { IfSome result (λ many. (before : ℕ) × (slice_index_or (entries_of (S.records self.now.shelf)) (entry - 1) [] ≡ between before (before + many) (S.records self.now.shelf))) }
     {

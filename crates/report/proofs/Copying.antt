@@ -20,7 +20,7 @@ use Rattle.manual.proofs.Classes.{Seen, seen}
 use Rattle.report.specs.Rows.{row_in, row_then, rows_from}
 use Rattle.report.proofs.Sorting.{plain_by}
 use Rattle.report.specs.Copies.{record_then, plain_records, crlf_lines}
-use Rattle.report.specs.Stands.{ReserveBlank, with_number, numbered_from, named_in, plain_or, plain_at}
+use Rattle.report.specs.Stands.{ReserveBlank, number_then, kept_from, with_number, numbered_from, named_in, plain_or, plain_at}
 use Rattle.report.proofs.Blanked.{blank_kind, blank_class, blank_rest, blank_again}
 use Rattle.report.proofs.Same.{All-whole, of_class}
 
@@ -127,6 +127,21 @@ module _ (m : Meaning) where
       row_first n r ps (class.Rider x) c ∙ ap (λ l. bare_row n x.code ∷ l) (same_rows rs ps on (suc n) (suc j)) ∙ sym (ap (numbered_from n) (row_first j r rs (class.Rider x) c))
   same_rows _ _ (bad r rs ps c on) n j = same_rows rs ps on n (suc j) ∙ sym (ap (numbered_from n) (row_first j r rs class.BadCode c))
   same_rows _ _ (unknown r rs ps c on) n j = same_rows rs ps on n (suc j) ∙ sym (ap (numbered_from n) (row_first j r rs class.Unknown c))
+
+  -- the rows have the numbers of the records that the copy keeps
+  kept_first : (n : ℕ) (r : List ℕ) (rs : List (List ℕ)) (l : Class) → class_of m r ≡ l → kept_from m n (r ∷ rs) ≡ number_then (plain_by l r) n (kept_from m (suc n) rs)
+  kept_first n r rs l e = ap (λ x. number_then (plain_by x r) n (kept_from m (suc n) rs)) e
+
+  pub same_places : (rs ps : List (List ℕ)) → Copying m rs ps → (n : ℕ) → map (λ (x : Row). x.number) (rows_from m n rs) ≡ kept_from m n rs
+  same_places _ _ none n = refl
+  same_places _ _ (core k f r rs ps w g c b on) n =
+      ap (map (λ (x : Row). x.number)) (row_first n r rs (class.Core k (Ok f)) c) ∙ (λ i. row_number n f i ∷ same_places rs ps on (suc n) i) ∙ sym (kept_first n r rs (class.Core k (Ok f)) c)
+  same_places _ _ (rider x r rs ps w g c on) n =
+      ap (map (λ (y : Row). y.number)) (row_first n r rs (class.Rider x) c) ∙ ap (λ l. n ∷ l) (same_places rs ps on (suc n)) ∙ sym (kept_first n r rs (class.Rider x) c)
+  same_places _ _ (bad r rs ps c on) n =
+      ap (map (λ (x : Row). x.number)) (row_first n r rs class.BadCode c) ∙ same_places rs ps on (suc n) ∙ sym (kept_first n r rs class.BadCode c)
+  same_places _ _ (unknown r rs ps c on) n =
+      ap (map (λ (x : Row). x.number)) (row_first n r rs class.Unknown c) ∙ same_places rs ps on (suc n) ∙ sym (kept_first n r rs class.Unknown c)
 
   pub as_many : (rs ps : List (List ℕ)) → Copying m rs ps → (n : ℕ) → length ps ≡ length (rows_from m n rs)
   as_many _ _ none n = refl

@@ -18,7 +18,7 @@ use Rattle.report.specs.Listing.{records_in}
 use Rattle.report.specs.Copies.{plain_records, crlf_lines, copied}
 use Rattle.report.specs.Stands.{ReserveBlank, with_riders, CopyStands}
 use Rattle.report.proofs.Same.{All-whole, lines_of, lines_laid, lines_records, plain_whole, plain_riders, follows}
-use Rattle.report.proofs.Copying.{All-readable, copying, known_all, blank_all, same_rows, as_many, self_copy, eighty_two, named_copies}
+use Rattle.report.proofs.Copying.{All-readable, copying, known_all, blank_all, same_rows, same_places, as_many, self_copy, eighty_two, named_copies}
 
 -- the records of records as lines
 pub lines_in : (rs : List (List ℕ)) → All-whole rs → records_in (crlf_lines rs) ≡ rs
@@ -54,6 +54,7 @@ module _ (m : Meaning) (e : List (List ℕ)) (clean : Finds m e → ⊥) where
         blank = subst (AllByRecursion ReserveBlank) (sym is) (blank_all m e (plain_records m e) c);
         riders = ap (riders_of m) is ∙ plain_riders m e w 0;
         rows = ap (rows_of m) is ∙ same_rows m e (plain_records m e) c 1 1;
+        places = same_places m e (plain_records m e) c 1;
         numbers = is ∙ named_copies m e e (plain_records m e) c [] 1 refl refl;
         bytes = eighty_two (plain_records m e) kept ∙ ap (λ n. 82 * n) (as_many m e (plain_records m e) c 1);
         again = ap (copied m) is ∙ ap crlf_lines (self_copy m e (plain_records m e) c);

@@ -1,9 +1,10 @@
--- The plain copy of a file's records under an edition: what nobody there knows is left out.
+-- The plain copy of a file's records under an edition: unknown records are left out.
 use Rattle.std.specs.Prelude.{ℕ, List, [], ◌∷◌, ◌++◌, Some, None, Option}
 use Rattle.record.specs.Editions.{Meaning}
 use Rattle.record.specs.Sorts.{sort_at}
 use Rattle.report.specs.Sorts.{plain_of}
 
+-- a record in front of those behind it, if there is one
 abbrev pub record_then : Option (List ℕ) → List (List ℕ) → List (List ℕ)
 record_then None rest = rest
 record_then (Some r) rest = r ∷ rest

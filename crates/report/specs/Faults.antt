@@ -18,5 +18,6 @@ abbrev pub fault_from : Meaning → Option Level → ℕ → List (List ℕ) →
 fault_from m o n [] = None
 fault_from m o n (r ∷ rs) = fault_or n (cause_in o (sort_at m r)) (fault_from m (level_behind o (sort_at m r)) (suc n) rs)
 
+-- the first among the records of a file; before its first record a place has no level
 abbrev pub first_fault : Meaning → List (List ℕ) → Option FileFault
 first_fault m rs = fault_from m None 1 rs

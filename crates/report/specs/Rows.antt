@@ -21,6 +21,7 @@ row_in n (class.Core k read) = row_read n read
 row_in n (class.Rider x) = Some (bare_row n x.code)
 row_in n class.Unknown = None
 
+-- a row in front of those behind it, if there is one
 abbrev pub row_then : Option Row → List Row → List Row
 row_then None rest = rest
 row_then (Some row) rest = row ∷ rest

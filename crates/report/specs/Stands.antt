@@ -35,13 +35,23 @@ numbered_from n (x ∷ xs) = with_number n x ∷ numbered_from (suc n) xs
 abbrev pub named_in : List (List ℕ) → Row → List ℕ
 named_in rs x = slice_index_or rs (x.number - 1) []
 
--- what the copy has of a record
+-- the bytes of a record, none where there is no record
 abbrev pub plain_or : Option (List ℕ) → List ℕ
 plain_or None = []
 plain_or (Some r) = r
 
+-- what the copy has of a record, none of an unknown one
 abbrev pub plain_at : Meaning → List ℕ → List ℕ
 plain_at m r = plain_or (plain_of (sort_at m r) r)
+
+-- the numbers of the records of which the copy has one, where the first is record n
+abbrev pub number_then : Option (List ℕ) → ℕ → List ℕ → List ℕ
+number_then None n rest = rest
+number_then (Some r) n rest = n ∷ rest
+
+abbrev pub kept_from : Meaning → ℕ → List (List ℕ) → List ℕ
+kept_from m n [] = []
+kept_from m n (r ∷ rs) = number_then (plain_of (sort_at m r) r) n (kept_from m (suc n) rs)
 
 -- a tree with these riders
 abbrev pub with_riders : Tree → List RiderAt → Reading
@@ -64,7 +74,9 @@ pub record CopyStands (m : Meaning) (e : List (List ℕ)) : Type 0 where
   pub riders : riders_of m (records_in (copied m e)) ≡ riders_of m e
   -- its rows are the entry's but for their numbers: row n is of record n
   pub rows : rows_of m (records_in (copied m e)) ≡ numbered_from 1 (rows_of m e)
-  -- which is the copy of the record that the entry's row n names
+  -- the entry's rows have the numbers of the records that the copy keeps, in order: so row n of the copy follows the n-th of these
+  pub places : map (λ (x : Row). x.number) (rows_of m e) ≡ kept_from m 1 e
+  -- and record n of the copy is the copy of the record that the entry's row n names
   pub numbers : records_in (copied m e) ≡ map (λ (x : Row). plain_at m (named_in e x)) (rows_of m e)
   -- it takes 82 bytes for each row
   pub bytes : length (copied m e) ≡ 82 * length (rows_of m e)

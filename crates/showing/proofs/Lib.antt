@@ -4,3 +4,4 @@ pub mod Passing
 pub mod Copied
 pub mod Riders
 pub mod Giving
+pub mod Filled

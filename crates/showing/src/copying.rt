@@ -6,7 +6,8 @@ ghost use Rattle.filing.specs.Volumes.{entries_of};
 ghost use Rattle.volume.specs.Tokens.{Own};
 ghost use Rattle.report.specs.Copies.{copied};
 ghost use Rattle.report.specs.Stands.{CopyStands};
-ghost use Rattle.showing.specs.Riders.{ReadsEntry};
+ghost use Rattle.filing.specs.declared.faults.VolumeFault.TheVariants.{CopyShort};
+ghost use Rattle.showing.specs.Riders.{ReadsEntry, FillsEntry};
 ghost use Rattle.showing.specs.Showing.{with_part, line_of, copying as copying_term, how_many, filled_in};
 
 use crate::walk::find;
@@ -54,7 +55,7 @@ fn write<S: Shelf, E: Edition>(
     }
 }
 
-// As `plain_copy`, which says what holds of its refusals.
+// `plain_copy`, without the clauses on which refusals can come and when 13 and 14 do.
 fn copy_entry<S: Shelf, E: Edition>(
     shelf: &S,
     volume: &Volume,
@@ -76,9 +77,9 @@ fn copy_entry<S: Shelf, E: Edition>(
     Ok(needed)
 }
 
-/// Writes entry `entry` without what `edition` does not know: each core record with its reserve positions blank and each rider as
-/// it stands, each with CR LF, 82 bytes a record, and answers how many bytes. Later bytes stay as they were, and a refusal
-/// leaves all of them so.
+/// Writes the plain copy of entry `entry`, read under `edition`: each core record with its reserve positions blank and each rider as
+/// it stands, each with CR LF, 82 bytes a record, and answers how many bytes. Unknown records are left out. Later bytes stay as
+/// they were, and a refusal leaves all of them so.
 pub fn plain_copy<S: Shelf, E: Edition>(
     shelf: &S,
     volume: &Volume,
@@ -90,6 +91,7 @@ pub fn plain_copy<S: Shelf, E: Edition>(
     ensures reads { ReadsEntry (E.meaning edition.now) entry (entries_of (S.records shelf.now)) result }
     ensures answer { result ≡ how_many (copying_term (E.meaning edition.now) entry (length buffer.old) (entries_of (S.records shelf.now))) }
     ensures buffer { buffer.new ≡ filled_in (copying_term (E.meaning edition.now) entry (length buffer.old) (entries_of (S.records shelf.now))) buffer.old }
+    ensures fills { FillsEntry (copied (E.meaning edition.now)) CopyShort (E.meaning edition.now) entry (entries_of (S.records shelf.now)) buffer.old buffer.new result }
     ensures refusals { RefusedBy of_copying result }
     ensures stands { IfOk result (λ _. CopyStands (E.meaning edition.now) (slice_index_or (entries_of (S.records shelf.now)) (entry - 1) [])) }
 {

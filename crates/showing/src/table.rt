@@ -6,7 +6,8 @@ ghost use Rattle.filing.specs.Volumes.{entries_of};
 ghost use Rattle.volume.specs.Tokens.{Own};
 ghost use Rattle.report.specs.Rows.{row_then, rows_of};
 ghost use Rattle.report.specs.Listing.{RowsStand};
-ghost use Rattle.showing.specs.Riders.{ReadsEntry};
+ghost use Rattle.filing.specs.declared.faults.VolumeFault.TheVariants.{RowsShort};
+ghost use Rattle.showing.specs.Riders.{ReadsEntry, FillsEntry};
 ghost use Rattle.showing.specs.Showing.{with_part, shown, how_many, filled_in};
 
 use crate::walk::find;
@@ -46,7 +47,7 @@ fn fill<S: Shelf, E: Edition>(shelf: &S, before: usize, count: usize, edition: &
     }
 }
 
-// As `show`, which says what holds of its refusals.
+// `show`, without the clauses on which refusals can come and when 13 and 14 do.
 fn show_entry<S: Shelf, E: Edition>(
     shelf: &S,
     volume: &Volume,
@@ -80,6 +81,7 @@ pub fn show<S: Shelf, E: Edition>(
     ensures reads { ReadsEntry (E.meaning edition.now) entry (entries_of (S.records shelf.now)) result }
     ensures answer { result ≡ how_many (shown (E.meaning edition.now) entry (length rows.old) (entries_of (S.records shelf.now))) }
     ensures table { rows.new ≡ filled_in (shown (E.meaning edition.now) entry (length rows.old) (entries_of (S.records shelf.now))) rows.old }
+    ensures fills { FillsEntry (rows_of (E.meaning edition.now)) RowsShort (E.meaning edition.now) entry (entries_of (S.records shelf.now)) rows.old rows.new result }
     ensures refusals { RefusedBy of_showing result }
     ensures stands { IfOk result (λ _. RowsStand (E.meaning edition.now) (slice_index_or (entries_of (S.records shelf.now)) (entry - 1) [])) }
 {

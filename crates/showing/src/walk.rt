@@ -1,5 +1,5 @@
 // The walk over an entry's records that showing and copying share: is there such an entry, is a rider of it wrong, how
-// many records of it are known.
+// many of its records are core records or riders.
 ghost use Rattle.std.specs.Prelude.{◌≡◌, ◌+◌, ◌≤◌, length, IfOk, IfErr, Ok, Err};
 ghost use Rattle.std.specs.List.{between};
 ghost use Rattle.filing.specs.Volumes.{entries_of};
@@ -26,17 +26,17 @@ fn survey<S: Shelf, E: Edition>(
     ensures { result ≡ surveyed (E.meaning edition.now) (between before (before + count) (S.records shelf.now)) }
 {
     let mut level: Option<Level> = None;
-    let mut known: usize = 0;
+    let mut rows: usize = 0;
     for i in 0..count {
         let number = i + 1;
         let sort = sort_in(&record_at(shelf, before + number), edition);
         if let Some(cause) = cause_in(level, sort) {
             return Err(FileFault { number, cause });
         }
-        known += copies_of(sort);
+        rows += copies_of(sort);
         level = level_behind(level, sort);
     }
-    Ok(known)
+    Ok(rows)
 }
 
 // Where an entry lies on its shelf: behind so many records, so many long; and how many of its records are core or riders.

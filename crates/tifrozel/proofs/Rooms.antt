@@ -18,7 +18,7 @@ use Rattle.report.specs.Rows.{row_in, row_then, rows_from, rows_of}
 use Rattle.showing.specs.Showing.{passed, fitting, shown, copying, how_many}
 use Rattle.showing.proofs.Passing.{passed_is}
 use Rattle.showing.proofs.Copied.{entry_stands}
-use Rattle.archive.specs.Archives.{records_in}
+use Rattle.archive.specs.Archives.{record_count}
 use Rattle.tifrozel.specs.Commands.{rows_for, entry_rows, entry_copy}
 
 few_then : (o : Option Row) (rest : List Row) → length (row_then o rest) ≤ suc (length rest)
@@ -46,7 +46,7 @@ abbrev Lie : Records → List Records → ℕ → ℕ → Type 0
 Lie rs es k n = (before : ℕ) × (get_or es (k - 1) [] ≡ between before (before + n) rs)
 
 module _ (m : Meaning) (k : ℕ) (rs : Records) (limit : ℕ) (whole : Whole rs) (o : Opened) (own : found_on rs limit ≡ Ok o) where
-  module _ (r : Option ℕ) (is : r ≡ records_in k (entries_of rs)) (lie : IfSome r (λ n. Lie rs (entries_of rs) k n)) where
+  module _ (r : Option ℕ) (is : r ≡ record_count k (entries_of rs)) (lie : IfSome r (λ n. Lie rs (entries_of rs) k n)) where
     lies : (e : Records) → passed m k (entries_of rs) ≡ Ok e → Lie rs (entries_of rs) k (length e)
     lies e h =
         let p = passed_is m k (entries_of rs) e h in

@@ -19,7 +19,7 @@ use Rattle.archive.specs.declared.NotLaid.{NotLaid}
 use Rattle.tifrozel.specs.declared.requests.AtShelf.{AtShelf}
 use Rattle.tifrozel.specs.declared.requests.AtShelf.TheVariants.{Open, TakeIn, Close, Show, Fetch, Plain}
 use Rattle.tifrozel.specs.declared.words.EditionName.{EditionName}
-use Rattle.archive.specs.Archives.{taking_answer, taking_records, taking_volume, closing_answer, closing_records, closing_volume, records_in}
+use Rattle.archive.specs.Archives.{taking_answer, taking_records, taking_volume, closing_answer, closing_records, closing_volume, record_count}
 use Rattle.tifrozel.specs.Editions.{meant}
 
 -- whether the command can lay something, and so leave what could not be written
@@ -51,7 +51,7 @@ LeavesClosing rs v after w = (after ≡ closing_records v rs) × (w ≡ closing_
 
 -- how many rows are enough to show entry k: as many as it has records
 abbrev pub rows_for : ℕ → List Records → ℕ
-rows_for k es = unwrap_or (records_in k es) 0
+rows_for k es = unwrap_or (record_count k es) 0
 
 -- the rows of entry k under an edition, or why it is not shown: never that the table is short, as it has a row for each record
 abbrev pub entry_rows : Meaning → ℕ → List Records → Result (List Row) VolumeFault

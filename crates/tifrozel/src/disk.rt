@@ -55,8 +55,8 @@ fn size_of(rt: &HostRuntime, path: &str) -> io::Result<u64> {
     }
 }
 
-// What a file's name ends with until it takes the old one's place. What was left under such a name is written over, so it is no name
-// that a shelf might have.
+// What the name of an unfinished file has in it: a shelf's file until it takes the old one's place, and a new file until it gets its
+// name. A shelf's file of such a name that an earlier run left is written over, so no shelf should be called so.
 const UNFINISHED: &str = ".tifrozel-unfinished";
 
 // Puts the bytes in the place of a file that was `known` bytes long: written beside it, synced, then renamed. Whoever else
@@ -106,14 +106,21 @@ fn write_and_name(
 }
 
 // Writes a new file with these bytes, whole or not at all: written under a name of this process's own, synced, and only then given
-// its name as well. Whether something has that name is asked first, so that nothing is written in vain; but it is the giving that
-// fails then, also where it is a link that leads nowhere, and so nothing is lost that came meanwhile.
+// its name as well. Whether something has that name is asked first, so that nothing is written in vain. Giving the name fails too
+// where something has it, be it a link that leads nowhere, so what has come meanwhile is not lost.
 pub fn create(rt: &HostRuntime, path: &str, bytes: &[u8]) -> io::Result<Created> {
     if fs::symlink_metadata(rt, path).is_ok() {
         return Ok(Created::There);
     }
+    if path.ends_with(UNFINISHED) {
+        return Err(Error::new(
+            ErrorKind::InvalidInput,
+            "a shelf that is being written has such a name",
+        ));
+    }
     let name = folder_of(path);
     let folder = File::open(rt, name)?;
+    folder.lock()?;
     let id = process::id(rt.process());
     let beside = format!(in rt.alloc(); "{name}/{UNFINISHED}-{id}")?;
     let beside = beside.as_str();

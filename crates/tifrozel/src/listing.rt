@@ -2,7 +2,7 @@
 ghost use Rattle.std.specs.Prelude.{IfOk};
 ghost use Rattle.file.specs.Single.{Listed};
 
-use crate::show::RowLine;
+use crate::lines::RowLine;
 use file::read_one;
 use manual::FileFault;
 use record::{Class, Edition, core_row};

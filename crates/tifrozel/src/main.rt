@@ -7,11 +7,11 @@ mod answers;
 mod checks;
 mod disk;
 mod files;
+mod lines;
 mod listing;
 mod reading;
 mod requests;
 mod shelves;
-mod show;
 mod words;
 
 use answers::{Done, Undone, bytes_of, not_run, records, tell};

@@ -7,8 +7,8 @@ ghost use Rattle.tifrozel.specs.Editions.{meant};
 
 use crate::answers::{Done, bytes, not_run, refused, rows, say};
 use crate::disk::{Created, create};
+use crate::lines::{RecordLine, RowLine};
 use crate::requests::EntryAsked;
-use crate::show::{RecordLine, RowLine};
 use archive::Archive;
 use field::ReferenceForm;
 use filing::VolumeFault;
@@ -68,7 +68,7 @@ fn entry_copy<S: Shelf + Drop, E: Edition>(
     }
 }
 
-// The rows as lines, one for each, to be printed at once.
+// The rows as lines, one for each, in one text.
 fn lines_of(heap: Global, rows: &[Row]) -> Result<String, AllocError> {
     let mut lines = String::new(heap);
     for row in rows {

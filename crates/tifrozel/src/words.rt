@@ -94,7 +94,10 @@ impl fmt::Display for Form {
             Command::Open | Command::Close => write!(f, "write {command} alone"),
             Command::Show => write!(f, "write {command} ENTRY [under bare|house], a number"),
             Command::Fetch => write!(f, "write {command} ENTRY RECORD, two numbers"),
-            Command::Plain => write!(f, "write {command} ENTRY FILE [under bare|house]"),
+            Command::Plain => write!(
+                f,
+                "write {command} ENTRY FILE [under bare|house], a number and a file"
+            ),
         }
     }
 }

@@ -3,6 +3,7 @@ use Rattle.filing.specs.Volumes.{entries_of}
 use Rattle.report.specs.Copies.{copied}
 use Rattle.filing.specs.declared.faults.VolumeFault.TheVariants.{CopyShort}
 use Rattle.filing.specs.Refusals.{of_copying}
+use Rattle.showing.proofs.Filled.{fills_entry}
 use Rattle.showing.proofs.Giving.{read_gives}
 use Rattle.showing.proofs.Riders.{reads_entry}
 use Rattle.showing.proofs.copying.plain_copy.Goals as goal
@@ -17,3 +18,8 @@ returns-clause-refusals g c =
     let m = g.E.Edition.meaning c.args.edition.now in
     read_gives of_copying (0, omega arith, refl) (1, omega arith, refl) (2, omega arith, refl) m c.args.entry (entries_of (g.S.Shelf.records c.args.shelf.now)) CopyShort (length c.args.buffer.now) (copied m)
     (λ n. (3, omega arith, refl)) c.copy_entry.result c.copy_entry.ensures.answer
+
+pub returns-clause-fills : goal.returns-clause-fills
+returns-clause-fills g c =
+    let m = g.E.Edition.meaning c.args.edition.now in
+    fills_entry (copied m) CopyShort m c.args.entry (entries_of (g.S.Shelf.records c.args.shelf.now)) c.args.buffer.now c.copy_entry.new.buffer c.copy_entry.result c.copy_entry.ensures.answer c.copy_entry.ensures.buffer

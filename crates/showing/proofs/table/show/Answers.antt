@@ -3,6 +3,7 @@ use Rattle.filing.specs.Volumes.{entries_of}
 use Rattle.report.specs.Rows.{rows_of}
 use Rattle.filing.specs.declared.faults.VolumeFault.TheVariants.{RowsShort}
 use Rattle.filing.specs.Refusals.{of_showing}
+use Rattle.showing.proofs.Filled.{fills_entry}
 use Rattle.showing.proofs.Giving.{read_gives}
 use Rattle.showing.proofs.Riders.{reads_entry}
 use Rattle.showing.proofs.table.show.Goals as goal
@@ -17,3 +18,8 @@ returns-clause-refusals g c =
     let m = g.E.Edition.meaning c.args.edition.now in
     read_gives of_showing (0, omega arith, refl) (1, omega arith, refl) (2, omega arith, refl) m c.args.entry (entries_of (g.S.Shelf.records c.args.shelf.now)) RowsShort (length c.args.rows.now) (rows_of m)
     (λ n. (3, omega arith, refl)) c.show_entry.result c.show_entry.ensures.answer
+
+pub returns-clause-fills : goal.returns-clause-fills
+returns-clause-fills g c =
+    let m = g.E.Edition.meaning c.args.edition.now in
+    fills_entry (rows_of m) RowsShort m c.args.entry (entries_of (g.S.Shelf.records c.args.shelf.now)) c.args.rows.now c.show_entry.new.rows c.show_entry.result c.show_entry.ensures.answer c.show_entry.ensures.table

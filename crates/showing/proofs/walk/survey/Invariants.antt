@@ -13,5 +13,5 @@ invariant-loop-i g l =
     let es = between l.before (l.before + l.count) rs in
     let left = left_from rs l.before l.count (l.i + 1) in
     (fault_from m l.level (l.i + 1) left ≡ first_fault m es)
-    × (l.known + length (plain_records m left) ≡ length (plain_records m es))
-    × (l.known + length left ≤ length es)
+    × (l.rows + length (plain_records m left) ≡ length (plain_records m es))
+    × (l.rows + length left ≤ length es)
