@@ -1,9 +1,10 @@
 -- What is done at an archive: on an open volume the volume's own call, on a closed one nothing.
-use Rattle.std.specs.Prelude.{ℕ, ◌+◌, ◌-◌, cond, List, [], length, Some, None, Ok, Err, Option, Result, slice_index_or}
+use Rattle.std.specs.Prelude.{ℕ, ◌+◌, ◌-◌, cond, List, [], length, Some, None, Ok, Err, Option, Result, slice_index_or, Contains, ⊤}
 use Rattle.record.specs.declared.fields.End.{End}
 use Rattle.manual.specs.declared.faults.FileFault.{FileFault}
 use Rattle.filing.specs.declared.faults.VolumeFault.{VolumeFault}
 use Rattle.filing.specs.Entries.{reads}
+use Rattle.filing.specs.Refusals.{number_told}
 use Rattle.filing.specs.Volumes.{Records}
 use Rattle.filing.specs.Laws.{taken, closed}
 use Rattle.volume.specs.declared.tokens.Volume.{Volume}
@@ -17,6 +18,11 @@ use Rattle.archive.specs.declared.NotLaid.TheVariants.{Closed, Refused}
 abbrev pub archive_answer : Result ℕ VolumeFault → Result ℕ NotLaid
 archive_answer (Ok k) = Ok k
 archive_answer (Err e) = Err (Refused e)
+
+-- nothing was laid as the volume is closed, or by a refusal with one of these numbers
+abbrev pub ToldBy : List ℕ → NotLaid → Type 0
+ToldBy numbers Closed = ⊤
+ToldBy numbers (Refused f) = Contains numbers (number_told f)
 
 -- taking in: what is answered, given what checking the file answers and its records e
 abbrev pub taking_answer : Result End FileFault → ℕ → Records → Volume → Records → Result ℕ NotLaid

@@ -7,7 +7,7 @@ ghost use Rattle.manual.specs.Judging.{check_of};
 ghost use Rattle.manual.specs.Laws.{judging};
 ghost use Rattle.manual.specs.Slots.{slots, front};
 ghost use Rattle.shelf.specs.Records.{flat};
-ghost use Rattle.filing.specs.Refusals.{RefusedBy, of_opening, of_fetching, of_showing, of_copying};
+ghost use Rattle.filing.specs.Refusals.{RefusedBy, of_opening, of_taking, of_fetching, of_showing, of_copying};
 ghost use Rattle.filing.specs.Volumes.{entries_of};
 ghost use Rattle.volume.specs.Taking.{fetched, fetch_answer, fetch_bytes};
 ghost use Rattle.volume.specs.Tokens.{Own, found_on, says, with_token};
@@ -15,7 +15,7 @@ ghost use Rattle.report.specs.Listing.{RowsStand};
 ghost use Rattle.report.specs.Stands.{CopyStands};
 ghost use Rattle.showing.specs.Riders.{ReadsEntry};
 ghost use Rattle.showing.specs.Showing.{shown, copying, how_many, filled_in};
-ghost use Rattle.archive.specs.Archives.{taking_answer, taking_records, taking_volume, closing_answer, closing_records, closing_volume, record_count};
+ghost use Rattle.archive.specs.Archives.{taking_answer, taking_records, taking_volume, closing_answer, closing_records, closing_volume, record_count, ToldBy};
 
 use filing::{Opened, VolumeFault};
 use record::{Edition, Row};
@@ -83,6 +83,7 @@ impl<S: Shelf + Drop> Archive<S> {
         ensures volume { self.new.volume ≡ taking_volume result (S.records self.old.shelf) self.old.volume (front (slots file.now)) }
         ensures limit { S.room self.new.shelf ≡ S.room self.old.shelf }
         ensures same { S.same self.old.shelf self.new.shelf }
+        ensures refusals { IfErr result (ToldBy of_taking) }
     {
         match &mut self.volume {
             Volume::Open(token) => {

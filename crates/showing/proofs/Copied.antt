@@ -24,7 +24,8 @@ few_then : (o : Option Row) (rest : List Row) → length (row_then o rest) ≤ s
 few_then None rest = omega arith
 few_then (Some r) rest = omega arith
 
-rows_few : (m : Meaning) (n : ℕ) (rs : List (List ℕ)) → length (rows_from m n rs) ≤ length rs
+-- there are no more rows than records
+pub rows_few : (m : Meaning) (n : ℕ) (rs : List (List ℕ)) → length (rows_from m n rs) ≤ length rs
 rows_few m n [] = omega arith
 rows_few m n (r ∷ rs) = omega (arith, few_then (row_in n (class_of m r)) (rows_from m (suc n) rs), rows_few m (suc n) rs)
 

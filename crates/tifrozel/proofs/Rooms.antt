@@ -1,11 +1,9 @@
 -- A table with a row for each record of an entry is large enough for its rows, and a buffer with 82 bytes for each for its plain copy.
-use Rattle.std.proofs.Common.{◌≡◌, ℕ, suc, ◌+◌, ◌-◌, ◌*◌, ◌≤◌, List, [], ◌∷◌, length, get_or, Some, None, Ok, Err, Option, Result, IfSome, sym, refl, ap, ◌∙◌, subst, arith}
+use Rattle.std.proofs.Common.{◌≡◌, ℕ, ◌+◌, ◌-◌, ◌*◌, ◌≤◌, List, [], length, get_or, Some, Ok, Err, Option, Result, IfSome, sym, refl, ap, ◌∙◌, subst, arith}
 use Rattle.std.specs.Prelude.{unwrap_or}
 use Rattle.std.specs.List.{between}
 use Rattle.std.proofs.lemmas.Bool.{cond-true, le-leb}
 use Rattle.field.specs.Chains.{then}
-use Rattle.record.specs.declared.rows.Row.{Row}
-use Rattle.record.specs.Classes.{class_of}
 use Rattle.record.specs.Editions.{Meaning}
 use Rattle.shelf.specs.Records.{Whole}
 use Rattle.filing.specs.declared.faults.VolumeFault.{VolumeFault}
@@ -14,20 +12,16 @@ use Rattle.filing.specs.declared.standing.Opened.{Opened}
 use Rattle.filing.specs.Volumes.{Records, entries_of}
 use Rattle.volume.specs.Tokens.{found_on}
 use Rattle.report.specs.Copies.{copied}
-use Rattle.report.specs.Rows.{row_in, row_then, rows_from, rows_of}
+use Rattle.report.specs.Rows.{rows_of}
 use Rattle.showing.specs.Showing.{passed, fitting, shown, copying, how_many}
 use Rattle.showing.proofs.Passing.{passed_is}
-use Rattle.showing.proofs.Copied.{entry_stands}
+use Rattle.showing.proofs.Copied.{entry_stands, rows_few}
 use Rattle.archive.specs.Archives.{record_count}
-use Rattle.tifrozel.specs.Commands.{rows_for, entry_rows, entry_copy}
+use Rattle.tifrozel.specs.Commands.{entry_rows, entry_copy}
 
-few_then : (o : Option Row) (rest : List Row) → length (row_then o rest) ≤ suc (length rest)
-few_then None rest = omega arith
-few_then (Some r) rest = omega arith
-
-rows_few : (m : Meaning) (n : ℕ) (rs : Records) → length (rows_from m n rs) ≤ length rs
-rows_few m n [] = omega arith
-rows_few m n (r ∷ rs) = omega (arith, few_then (row_in n (class_of m r)) (rows_from m (suc n) rs), rows_few m (suc n) rs)
+-- how many rows are enough to show entry k: as many as it has records
+abbrev pub rows_for : ℕ → List Records → ℕ
+rows_for k es = unwrap_or (record_count k es) 0
 
 enough : {A : Type 0} (short : ℕ → VolumeFault) (of : Records → List A) (many : ℕ) (p : Result Records VolumeFault) → ((e : Records) → p ≡ Ok e → length (of e) ≤ many)
     → then p (λ e. fitting short many (of e)) ≡ then p (λ e. Ok (of e))

@@ -1,6 +1,6 @@
 -- What the commands at a shelf leave of its records and of its volume, and when they may be said to be done. What they print, and what is in a file that they
 -- read, no term can say.
-use Rattle.std.specs.Prelude.{◌≡◌, ℕ, ◌⊎◌, List, true, is_ok, unwrap_or, Ok, Result, ⊤}
+use Rattle.std.specs.Prelude.{◌≡◌, ℕ, ◌⊎◌, List, true, is_ok, Ok, Result, ⊤}
 use Rattle.field.specs.Chains.{then}
 use Rattle.record.specs.declared.rows.Row.{Row}
 use Rattle.record.specs.Editions.{Meaning}
@@ -19,7 +19,7 @@ use Rattle.archive.specs.declared.NotLaid.{NotLaid}
 use Rattle.tifrozel.specs.declared.requests.AtShelf.{AtShelf}
 use Rattle.tifrozel.specs.declared.requests.AtShelf.TheVariants.{Open, TakeIn, Close, Show, Fetch, Plain}
 use Rattle.tifrozel.specs.declared.words.EditionName.{EditionName}
-use Rattle.archive.specs.Archives.{taking_answer, taking_records, taking_volume, closing_answer, closing_records, closing_volume, record_count}
+use Rattle.archive.specs.Archives.{taking_answer, taking_records, taking_volume, closing_answer, closing_records, closing_volume}
 use Rattle.tifrozel.specs.Editions.{meant}
 
 -- whether the command can lay something, and so leave what could not be written
@@ -48,10 +48,6 @@ Kept rs v after w = (after ≡ rs) × (w ≡ v)
 -- closing: the closing record was laid, or nothing changed as the volume was closed
 abbrev pub LeavesClosing : Records → Volume → Records → Volume → Type 0
 LeavesClosing rs v after w = (after ≡ closing_records v rs) × (w ≡ closing_volume v)
-
--- how many rows are enough to show entry k: as many as it has records
-abbrev pub rows_for : ℕ → List Records → ℕ
-rows_for k es = unwrap_or (record_count k es) 0
 
 -- the rows of entry k under an edition, or why it is not shown: never that the table is short, as it has a row for each record
 abbrev pub entry_rows : Meaning → ℕ → List Records → Result (List Row) VolumeFault

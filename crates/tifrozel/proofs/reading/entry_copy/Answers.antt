@@ -2,8 +2,7 @@ use Rattle.std.proofs.Common.{◌≡◌, ◌*◌, length, sym, ap, ◌∙◌, ru
 use Rattle.filing.specs.Volumes.{entries_of}
 use Rattle.volume.specs.Tokens.{says}
 use Rattle.showing.specs.Showing.{copying, how_many}
-use Rattle.tifrozel.specs.Commands.{rows_for}
-use Rattle.tifrozel.proofs.Rooms.{buffer_enough, not_filled}
+use Rattle.tifrozel.proofs.Rooms.{rows_for, buffer_enough, not_filled}
 use Rattle.tifrozel.proofs.reading.entry_copy.Goals as goal
 
 pub returns-in-Err : goal.returns-in-Err

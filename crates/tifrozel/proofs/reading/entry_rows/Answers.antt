@@ -1,8 +1,7 @@
 use Rattle.std.proofs.Common.{◌≡◌, length, sym, ap, ◌∙◌, rules}
 use Rattle.filing.specs.Volumes.{entries_of}
 use Rattle.showing.specs.Showing.{shown, how_many}
-use Rattle.tifrozel.specs.Commands.{rows_for}
-use Rattle.tifrozel.proofs.Rooms.{table_enough, not_filled}
+use Rattle.tifrozel.proofs.Rooms.{rows_for, table_enough, not_filled}
 use Rattle.tifrozel.proofs.reading.entry_rows.Goals as goal
 
 pub returns-in-Err : goal.returns-in-Err
