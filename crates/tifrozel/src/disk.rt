@@ -135,7 +135,8 @@ pub fn create(rt: &HostRuntime, path: &str, bytes: &[u8]) -> io::Result<Created>
 
 #[cfg(test)]
 mod tests {
-    use super::{Created, create, read_shelf, replace};
+    use super::{Created, create, read_shelf, replace, write_and_name};
+    use std::fs::File;
     use std::os::unix::fs::symlink;
     use std::{env, fs, io, process};
 
@@ -201,6 +202,37 @@ mod tests {
         Ok(())
     }
 
+    // What came to have the name only after it was asked for is left as it was: a file, and a link that leads nowhere.
+    #[test]
+    fn name_taken_meanwhile(rt: HostRuntime) -> io::Result<()> {
+        let folder = fresh_folder(&rt, "meanwhile")?;
+        let folder = folder.as_str();
+        let path = format!(in rt.alloc(); "{folder}/copy")?;
+        let path = path.as_str();
+        let link = format!(in rt.alloc(); "{folder}/link")?;
+        let link = link.as_str();
+        let beside = format!(in rt.alloc(); "{folder}/beside")?;
+        let beside = beside.as_str();
+        assert_eq!(rt; create(&rt, path, b"first")?, Created::New);
+        symlink(&rt, "nowhere", link)?;
+        let file = File::create_new(&rt, beside)?;
+        let answer = write_and_name(&rt, file, beside, path, b"second")?;
+        assert_eq!(rt; answer, Created::There);
+        assert!(rt; fs::exists(&rt, beside)?);
+        fs::remove_file(&rt, beside)?;
+        let file = File::create_new(&rt, beside)?;
+        let answer = write_and_name(&rt, file, beside, link, b"second")?;
+        assert_eq!(rt; answer, Created::There);
+        assert!(rt; fs::symlink_metadata(&rt, link)?.is_symlink());
+        let bytes = fs::read(&rt, path)?;
+        fs::remove_file(&rt, beside)?;
+        fs::remove_file(&rt, link)?;
+        fs::remove_file(&rt, path)?;
+        fs::remove_dir(&rt, folder)?;
+        assert_eq!(rt; bytes.as_slice(), b"first".as_slice());
+        Ok(())
+    }
+
     // A link is left as it was, and so is what it leads to, or that there is nothing.
     #[test]
     fn link_taken(rt: HostRuntime) -> io::Result<()> {
@@ -221,6 +253,21 @@ mod tests {
         fs::remove_file(&rt, path)?;
         fs::remove_dir(&rt, folder)?;
         assert_eq!(rt; bytes.as_slice(), b"first".as_slice());
+        Ok(())
+    }
+
+    // A name that a shelf has while it is being written is taken by no copy, though nothing has it.
+    #[test]
+    fn name_of_unfinished(rt: HostRuntime) -> io::Result<()> {
+        let folder = fresh_folder(&rt, "unfinished")?;
+        let folder = folder.as_str();
+        let path = format!(in rt.alloc(); "{folder}/estate.shelf.tifrozel-unfinished")?;
+        let path = path.as_str();
+        let created = create(&rt, path, b"first");
+        let there = fs::exists(&rt, path)?;
+        fs::remove_dir(&rt, folder)?;
+        assert!(rt; created.is_err());
+        assert!(rt; !there);
         Ok(())
     }
 
