@@ -5,3 +5,5 @@ pub mod Blanked
 pub mod Same
 pub mod Copying
 pub mod Standing
+pub mod Movements
+pub mod Totals

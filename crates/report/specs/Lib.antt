@@ -5,3 +5,6 @@ pub mod Riders
 pub mod Listing
 pub mod Copies
 pub mod Stands
+pub mod Pairs
+pub mod Balances
+pub mod Sections

@@ -1,0 +1,11 @@
+pub mod OneShown
+pub mod Lawful
+pub mod SameEditions
+pub mod TwinEntries
+pub mod TwinBalances
+pub mod TwinShowings
+pub mod TwinCopies
+pub mod TwinTakings
+pub mod Running
+pub mod Worked
+pub mod InLaw

@@ -1,0 +1,9 @@
+pub mod Aligning
+pub mod Levels
+pub mod Sparing
+pub mod Checking
+pub mod Rows
+pub mod Moves
+pub mod Following
+pub mod Copies
+pub mod TwinLaws
