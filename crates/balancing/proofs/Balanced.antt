@@ -18,7 +18,7 @@ use Rattle.report.specs.declared.pairs.Pair.{Pair}
 use Rattle.report.specs.Pairs.{same_pair, no_pair}
 use Rattle.report.specs.Balances.{move_class, move_then, pair_class, moves_from, all_records, moves_of, balance_of}
 use Rattle.report.proofs.Movements.{moves_few, moves_small}
-use Rattle.report.proofs.Totals.{entering, run_is, as_many_rows}
+use Rattle.report.proofs.Totals.{entering, run_is, as_many_rows, rows_few}
 use Rattle.balancing.specs.Balancing.{entered_by, balanced, balance_answer, balance_table}
 use Rattle.balancing.specs.Stands.{BalanceStands}
 use Rattle.filing.specs.declared.faults.VolumeFault.{VolumeFault}
@@ -84,6 +84,10 @@ module _ (rs : Records) (limit : ℕ) (whole : Whole rs) (few : length rs ≤ 50
 
   pub balanced_short : None ≡ run same_pair n [] (moves_from no_pair rs) → Err BalanceShort ≡ balanced n (entries_of rs)
   balanced_short h = sym (too_few n (entries_of rs) (refused h))
+
+  -- it has no more rows than the shelf has records
+  pub balance_few : length (balance_of (entries_of rs)) ≤ length rs
+  balance_few = omega (arith, rows_few (moves_of (entries_of rs)), ap length moves_are, moves_few no_pair rs)
 
 -- What it comes to.
 pub stands_on : (rs : Records) (limit : ℕ) (whole : Whole rs) (few : length rs ≤ 500000) (o : Opened) (own : found_on rs limit ≡ Ok o) (before after : List (Row Pair)) (answer : Result ℕ VolumeFault)

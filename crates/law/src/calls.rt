@@ -19,6 +19,7 @@ ghost use Rattle.report.specs.Stands.{CopyStands};
 ghost use Rattle.showing.specs.Riders.{ReadsEntry, FillsEntry};
 ghost use Rattle.showing.specs.Showing.{shown, copying, how_many, filled_in};
 ghost use Rattle.balancing.specs.Balancing.{balanced, balance_answer, balance_table, of_balancing};
+ghost use Rattle.balancing.specs.Stands.{BalanceStands};
 ghost use Rattle.law.specs.Archive.{taking_in, closing, opening_again, showing, fetching, balancing, taken_in, closed, opened, rows as rows_answer, bytes as bytes_answer, sums as sums_answer};
 ghost use Rattle.law.specs.Copies.{CopyInLaw};
 ghost use Rattle.law.specs.Runs.{Made, InLaw, told, tells};
@@ -169,6 +170,7 @@ pub fn balance<S: Shelf>(
     ensures answer { result ≡ balance_answer (balanced (length rows.old) (entries_of (S.records shelf.now))) }
     ensures table { rows.new ≡ balance_table (balanced (length rows.old) (entries_of (S.records shelf.now))) (length rows.old) }
     ensures refusals { RefusedBy of_balancing result }
+    ensures stands { BalanceStands (entries_of (S.records shelf.now)) rows.old result rows.new }
     ensures law { InLaw (S.records shelf.now) (S.room shelf.now) (balancing rows.old) (sums_answer result rows.new) (S.records shelf.now) (S.room shelf.now) }
 {
     balancing::balance(shelf, volume, rows)

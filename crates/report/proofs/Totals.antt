@@ -160,6 +160,19 @@ module _ (moves : List (Row Pair)) (few : length moves ≤ 500000) (small : Smal
 pub as_many_rows : (moves : List (Row Pair)) → length (summed_rows moves) ≡ distinct same_pair (keys moves)
 as_many_rows moves = length-map (firsts same_pair (keys moves)) (summed_row moves)
 
+-- and at most as many as entries
+firsts_few : (ks seen : List Pair) → length (firsts_past same_pair seen ks) ≤ length ks
+firsts_few [] seen = omega arith
+firsts_few (k ∷ ks) seen = by (among same_pair seen k) (firsts_few ks (k ∷ seen))
+  where
+    by : (b : Bool) → length (firsts_past same_pair (k ∷ seen) ks) ≤ length ks
+        → length (cond b (firsts_past same_pair (k ∷ seen) ks) (k ∷ firsts_past same_pair (k ∷ seen) ks)) ≤ suc (length ks)
+    by true h = omega (arith, h)
+    by false h = omega (arith, h)
+
+pub rows_few : (moves : List (Row Pair)) → length (summed_rows moves) ≤ length moves
+rows_few moves = omega (arith, as_many_rows moves, firsts_few (keys moves) [], length-map moves (λ (r : Row Pair). r.key))
+
 -- ALL OF IT, for the sections of files.
 
 named_is : (p : Pair) (rs : List (Row Pair)) → named p rs ≡ rows_of same_pair rs p
