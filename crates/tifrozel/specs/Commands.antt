@@ -17,7 +17,7 @@ use Rattle.volume.specs.Taking.{fetched}
 use Rattle.volume.specs.declared.tokens.Volume.{Volume}
 use Rattle.archive.specs.declared.NotLaid.{NotLaid}
 use Rattle.tifrozel.specs.declared.requests.AtShelf.{AtShelf}
-use Rattle.tifrozel.specs.declared.requests.AtShelf.TheVariants.{Open, TakeIn, Close, Show, Fetch, Plain}
+use Rattle.tifrozel.specs.declared.requests.AtShelf.TheVariants.{Open, TakeIn, Close, Show, Fetch, Balance, Plain}
 use Rattle.tifrozel.specs.declared.words.EditionName.{EditionName}
 use Rattle.archive.specs.Archives.{taking_answer, taking_records, taking_volume, closing_answer, closing_records, closing_volume}
 use Rattle.tifrozel.specs.Editions.{meant}
@@ -29,6 +29,7 @@ Lays (TakeIn f) = ⊤
 Lays Close = ⊤
 Lays (Show a) = ⊥
 Lays (Fetch k n) = ⊥
+Lays Balance = ⊥
 Lays (Plain a path) = ⊥
 
 -- taking in a file of these bytes under this edition, with so many rows for payers, in an archive with this limit: what is answered
@@ -66,14 +67,16 @@ Leaves (TakeIn f) payers limit rs v after w = Kept rs v after w ⊎ ((bytes : Li
 Leaves Close payers limit rs v after w = LeavesClosing rs v after w
 Leaves (Show a) payers limit rs v after w = Kept rs v after w
 Leaves (Fetch k n) payers limit rs v after w = Kept rs v after w
+Leaves Balance payers limit rs v after w = Kept rs v after w
 Leaves (Plain a path) payers limit rs v after w = Kept rs v after w
 
 -- when a command may be said to be done: taking in where some bytes were read and their file was taken in, closing where the volume was open, fetching where
--- there is such a record, showing and the plain copy where the entry can be read under the edition that was asked for
+-- there is such a record, showing and the plain copy where the entry can be read under the edition that was asked for; balancing is never refused
 abbrev pub Does : AtShelf → ℕ → ℕ → Records → Volume → Type 0
 Does Open payers limit rs v = ⊤
 Does (TakeIn f) payers limit rs v = (bytes : List ℕ) × (is_ok (file_answer payers f.edition bytes limit rs v) ≡ true)
 Does Close payers limit rs v = is_ok (closing_answer v) ≡ true
 Does (Show a) payers limit rs v = is_ok (entry_rows (meant a.edition) a.entry (entries_of rs)) ≡ true
 Does (Fetch k n) payers limit rs v = is_ok (fetched k n (entries_of rs)) ≡ true
+Does Balance payers limit rs v = ⊤
 Does (Plain a path) payers limit rs v = is_ok (entry_copy (meant a.edition) a.entry (entries_of rs)) ≡ true

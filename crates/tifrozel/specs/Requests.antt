@@ -47,5 +47,6 @@ module _ {Z : Type 0} where
   Asks command.Close words (request.AtShelf shelf.Close) = AsksAlone words
   Asks command.Show words (request.AtShelf (shelf.Show a)) = AsksEntry words a
   Asks command.Fetch words (request.AtShelf (shelf.Fetch k n)) = AsksRecord words k n
+  Asks command.Balance words (request.AtShelf shelf.Balance) = AsksAlone words
   Asks command.Plain words (request.AtShelf (shelf.Plain a path)) = AsksCopy words a path.now
   Asks c words r = ⊥

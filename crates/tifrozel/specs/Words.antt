@@ -5,7 +5,7 @@ use Rattle.tifrozel.specs.declared.words.EditionName.{EditionName}
 use Rattle.tifrozel.specs.declared.words.EditionName.TheVariants.{Bare, House}
 use Rattle.tifrozel.specs.declared.words.NoSuchEdition.{NoSuchEdition}
 use Rattle.tifrozel.specs.declared.words.Command.{Command}
-use Rattle.tifrozel.specs.declared.words.Command.TheVariants.{Read, Check, Open, TakeIn, Close, Show, Fetch, Plain}
+use Rattle.tifrozel.specs.declared.words.Command.TheVariants.{Read, Check, Open, TakeIn, Close, Show, Fetch, Balance, Plain}
 use Rattle.tifrozel.specs.declared.words.NoSuchCommand.{NoSuchCommand}
 
 -- the word that names an edition
@@ -32,6 +32,7 @@ command_word TakeIn = codes "take-in"
 command_word Close = codes "close"
 command_word Show = codes "show"
 command_word Fetch = codes "fetch"
+command_word Balance = codes "balance"
 command_word Plain = codes "plain"
 
 -- the answer is the command that the word names, or that it names none
@@ -40,7 +41,7 @@ IsCommandNamed word r =
     MatchResult
     r
     (λ c. word ≡ command_word c)
-    (λ _. (word ≢ codes "read") × ((word ≢ codes "check") × ((word ≢ codes "open") × ((word ≢ codes "take-in") × ((word ≢ codes "close") × ((word ≢ codes "show") × ((word ≢ codes "fetch") × (word ≢ codes "plain"))))))))
+    (λ _. (word ≢ codes "read") × ((word ≢ codes "check") × ((word ≢ codes "open") × ((word ≢ codes "take-in") × ((word ≢ codes "close") × ((word ≢ codes "show") × ((word ≢ codes "fetch") × ((word ≢ codes "balance") × (word ≢ codes "plain")))))))))
 
 -- a word writes a number: decimal digits, perhaps behind a plus, of less than 2 ^ 64
 abbrev pub Writes : List ℕ → ℕ → Type 0

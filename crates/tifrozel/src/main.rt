@@ -4,6 +4,7 @@
 ghost use Rattle.std.specs.Prelude.{◌≤◌};
 
 mod answers;
+mod balances;
 mod checks;
 mod disk;
 mod files;

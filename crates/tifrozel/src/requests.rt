@@ -30,6 +30,7 @@ pub enum AtShelf<'a> {
     Close,
     Show(EntryAsked),
     Fetch { entry: usize, number: usize },
+    Balance,
     Plain { asked: EntryAsked, path: &'a str },
 }
 
@@ -49,6 +50,7 @@ impl fmt::Display for AtShelf<'_> {
             AtShelf::Close => write!(f, "{}", Command::Close),
             AtShelf::Show(asked) => write!(f, "{} {}", Command::Show, asked.entry),
             AtShelf::Fetch { entry, number } => write!(f, "{} {entry} {number}", Command::Fetch),
+            AtShelf::Balance => write!(f, "{}", Command::Balance),
             AtShelf::Plain { asked, .. } => write!(f, "{} {}", Command::Plain, asked.entry),
         }
     }
@@ -109,6 +111,7 @@ pub fn request_of<'a>(command: Command, words: &'a [String]) -> Option<Request<'
             entry: entry.as_str().parse().ok()?,
             number: number.as_str().parse().ok()?,
         })),
+        (Command::Balance, [_]) => Some(Request::AtShelf(AtShelf::Balance)),
         (Command::Plain, _) => {
             let (asked, path) = copy_asked(words)?;
             Some(Request::AtShelf(AtShelf::Plain { asked, path }))

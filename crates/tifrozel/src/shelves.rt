@@ -7,6 +7,7 @@ ghost use Rattle.tifrozel.specs.Commands.{Does, Kept, Lays, Leaves, LeavesTaking
 
 use crate::answers::{Done, Undone, bytes_of, entries, not_run, refused, say};
 use crate::disk::replace;
+use crate::balances::balance;
 use crate::reading::{fetch, plain, show};
 use crate::requests::{AtShelf, FileAsked};
 use crate::words::EditionName;
@@ -177,6 +178,10 @@ fn at_archive<S: Shelf + Drop>(
         AtShelf::Fetch { entry, number } => {
             let fetched = fetch(rt, head, &archive, entry, number);
             (Some(archive), fetched)
+        }
+        AtShelf::Balance => {
+            let balanced = balance(rt, head, &archive);
+            (Some(archive), balanced)
         }
         AtShelf::Show(asked) => {
             let shown = show(rt, head, &archive, asked);

@@ -62,6 +62,7 @@ pub enum Command {
     Close,
     Show,
     Fetch,
+    Balance,
     Plain,
 }
 
@@ -75,6 +76,7 @@ impl fmt::Display for Command {
             Command::Close => "close",
             Command::Show => "show",
             Command::Fetch => "fetch",
+            Command::Balance => "balance",
             Command::Plain => "plain",
         })
     }
@@ -91,7 +93,7 @@ impl fmt::Display for Form {
             Command::Read | Command::Check | Command::TakeIn => {
                 write!(f, "write {command} FILE [under bare|house]")
             }
-            Command::Open | Command::Close => write!(f, "write {command} alone"),
+            Command::Open | Command::Close | Command::Balance => write!(f, "write {command} alone"),
             Command::Show => write!(f, "write {command} ENTRY [under bare|house], a number"),
             Command::Fetch => write!(f, "write {command} ENTRY RECORD, two numbers"),
             Command::Plain => write!(
@@ -120,6 +122,7 @@ impl FromStr for Command {
             "close" => Ok(Command::Close),
             "show" => Ok(Command::Show),
             "fetch" => Ok(Command::Fetch),
+            "balance" => Ok(Command::Balance),
             "plain" => Ok(Command::Plain),
             _ => Err(NoSuchCommand),
         }
