@@ -1,3 +1,4 @@
 pub mod Alike
+pub mod Deposits
 pub mod Sevens
 pub mod Told

@@ -5,6 +5,7 @@
 mod checks;
 #[cfg(test)]
 mod copies;
+mod deposits;
 #[cfg(test)]
 mod examples;
 #[cfg(test)]
@@ -28,3 +29,5 @@ mod tables;
 mod tokens;
 #[cfg(test)]
 mod volumes;
+
+pub use deposits::{deposit_and_show, deposit_twice};
