@@ -254,9 +254,9 @@ in_law_copied rs room k m before after r is left limit past made =
     record {
       answers = answers;
       buffer = buffer;
-      alike = λ spare other others s unknown.
-          let both = copies_alike limit past made.some made.bound made.allowed m k before spare other others s unknown in (
-            subst₂ (λ x y. CopyAlike (Follow spare (entry_at (archive limit past) k) (entry_at (archive other others) k)) x y (copy_answer (archive other others) m k before) (copy_buffer (archive other others) m k before)) (sym answers) (sym buffer) both.0,
+      alike = λ spare other others n s e unknown.
+          let both = copies_alike limit past made.some made.bound made.allowed m k before spare other others n s e unknown in (
+            subst₂ (λ x y. CopyAlike (Follow spare (entry_at (archive limit past) k) (entry_at (archive other others) k)) x y (copy_answer (archive other others) n k before) (copy_buffer (archive other others) n k before)) (sym answers) (sym buffer) both.0,
             both.1,
           );
       on = made;

@@ -23,9 +23,9 @@ use Rattle.twins.proofs.Sparing.{passes_in, passes_bare}
 use Rattle.law.specs.Archive.{TakenFile, records_of, Archive, empty, entries, places, Call, taking_in, closing, opening_again, showing, fetching, balancing, Answer, taken_in, opened, rows, sums, taking, answer, with_file, AllAllowed, Allowed, after, after_all}
 use Rattle.law.specs.Copies.{entry_at, CopyAlike, copy_answer, copy_buffer}
 use Rattle.law.specs.Runs.{archive, Alike}
-use Rattle.law.specs.TwoRuns.{editions, SameCall, takes_in, closes, opens, shows, fetches, balances, AnswerAlike, both_taken, both_refused, both_marked, both_same, both_closed, both_opened, set_aside, both_balanced, NotFull, NeverFull, named, CallsAlike, RunsAlike, SameCalls, TwoRuns}
+use Rattle.law.specs.TwoRuns.{SameEdition, editions, SameCall, takes_in, closes, opens, shows, fetches, balances, AnswerAlike, both_taken, both_refused, both_marked, both_same, both_closed, both_opened, set_aside, both_balanced, NotFull, NeverFull, named, CallsAlike, RunsAlike, SameCalls, TwoRuns}
 use Rattle.law.proofs.Lawful.{Sound-in, sound_after, sound_empty, allowed_on}
-use Rattle.law.proofs.SameEditions.{file_whole, check_same, shown_same}
+use Rattle.law.proofs.SameEditions.{file_whole, check_same, shown_same, copying_same}
 use Rattle.law.proofs.TwinEntries.{TwinFile, entries_alike, entry_alike, entry_partners}
 use Rattle.law.proofs.TwinBalances.{balances_alike}
 use Rattle.law.proofs.TwinCopies.{copying_alike}
@@ -177,17 +177,20 @@ two_runs = record { every = λ spare limit other some bound cs ds ok s. (both sp
 
 -- a plain copy behind the same calls
 module _ (limit : ℕ) (past : List Call) (some : 0 < limit) (bound : limit ≤ highest) (ok : AllAllowed Open past) (m : Meaning) (k : ℕ) (before : List ℕ) where
-  pub copies_alike : (spare : ℕ → Bool) (other : ℕ) (others : List Call) → SameCalls spare limit past other others → ((c : ℕ) → spare c ≡ true → m.level c ≡ None)
+  pub copies_alike : (spare : ℕ → Bool) (other : ℕ) (others : List Call) (n : Meaning) → SameCalls spare limit past other others → SameEdition m n
+      → ((c : ℕ) → spare c ≡ true → m.level c ≡ None)
       → CopyAlike (Follow spare (entry_at (archive limit past) k) (entry_at (archive other others) k))
       (copy_answer (archive limit past) m k before) (copy_buffer (archive limit past) m k before)
-      (copy_answer (archive other others) m k before) (copy_buffer (archive other others) m k before)
+      (copy_answer (archive other others) n k before) (copy_buffer (archive other others) n k before)
       × Partners spare (entry_at (archive limit past) k) (entry_at (archive other others) k)
-  copies_alike spare other others s unknown =
+  copies_alike spare other others n s e unknown =
       let a = archive limit past in
       let b = archive other others in
       let es = entries_alike spare a.files b.files (both spare limit other some bound past others ok s).1.files in
       let pass : Passes spare m = record { no_core = (passes_bare spare (editions past) (editions others) s.spares).no_core; not_known = unknown } in (
-        copying_alike spare k m pass before (entries a) (entries b) es,
+        subst (λ c. CopyAlike (Follow spare (entry_at a k) (entry_at b k)) (copy_answer a m k before) (copy_buffer a m k before) (how_many c) (filled_in c before))
+            (copying_same m n e k (length before) (entries b) (entry_whole b.files (k - 1)))
+            (copying_alike spare k m pass before (entries a) (entries b) es),
         entry_partners spare (entry_at a k) (entry_at b k) (entry_alike spare (entries a) (entries b) es (k - 1)),
       )
 

@@ -15,14 +15,18 @@ use Rattle.manual.specs.declared.faults.FileFault.{FileFault}
 use Rattle.manual.specs.Judging.{Mode, State, step, at_record, then_on, begin, judge, check_of}
 use Rattle.manual.specs.Slots.{Slot, whole, broken, after_cut, slots_in, slots, front}
 use Rattle.manual.proofs.Slotting.{cut_parts}
-use Rattle.filing.specs.declared.faults.VolumeFault.TheVariants.{NoEntry, RowsShort}
+use Rattle.filing.specs.declared.faults.VolumeFault.{VolumeFault}
+use Rattle.filing.specs.declared.faults.VolumeFault.TheVariants.{NoEntry, RowsShort, CopyShort}
 use Rattle.filing.specs.Volumes.{Records}
 use Rattle.volume.specs.Taking.{numbered_in}
+use Rattle.report.specs.Copies.{record_then, plain_records, crlf_lines, copied}
+use Rattle.record.specs.Sorts.{sort_of}
+use Rattle.report.specs.Sorts.{plain_of}
 use Rattle.report.specs.Faults.{fault_or, fault_from, first_fault}
 use Rattle.report.specs.Listing.{records_in}
 use Rattle.report.specs.Rows.{row_in, row_then, rows_from, rows_of}
 use Rattle.report.proofs.Sorting.{cause_of, level_past}
-use Rattle.showing.specs.Showing.{unless_rider, fitting, shown}
+use Rattle.showing.specs.Showing.{unless_rider, fitting, shown, copying}
 use Rattle.law.specs.TwoRuns.{SameEdition}
 
 -- WHOLE RECORDS stand in the slots of a file.
@@ -95,16 +99,25 @@ module _ (m n : Meaning) (same : SameEdition m n) where
       ap (λ c. fault_or k (cause_of o c) (fault_from m (level_past o c) (suc k) rs)) (class_same r w.0)
       ∙ ap (fault_or k (cause_of o (class_of n r))) (fault_same rs w.1 (level_past o (class_of n r)) (suc k))
 
-  -- showing
-  module _ (k many : ℕ) (e : Records) (w : AllByRecursion Whole e) where
-    filled_same : (o : Option FileFault) → then (unless_rider k o e) (λ x. fitting RowsShort many (rows_of m x)) ≡ then (unless_rider k o e) (λ x. fitting RowsShort many (rows_of n x))
-    filled_same None = ap (fitting RowsShort many) (rows_same e w 1)
+  -- what the plain copy has of them
+  plain_same : (rs : Records) → AllByRecursion Whole rs → plain_records m rs ≡ plain_records n rs
+  plain_same [] w = refl
+  plain_same (r ∷ rs) w = λ i. record_then (plain_of (sort_of (class_same r w.0 i)) r) (plain_same rs w.1 i)
+
+  -- filling in what is read of an entry
+  module _ {A : Type 0} (short : ℕ → VolumeFault) (fill : Meaning → Records → List A) (k many : ℕ) (e : Records) (w : AllByRecursion Whole e) (same_fill : fill m e ≡ fill n e) where
+    filled_same : (o : Option FileFault) → then (unless_rider k o e) (λ x. fitting short many (fill m x)) ≡ then (unless_rider k o e) (λ x. fitting short many (fill n x))
+    filled_same None = ap (fitting short many) same_fill
     filled_same (Some f) = refl
 
-    entry_same : (b : Bool) → then (cond b (unless_rider k (first_fault m e) e) (Err (NoEntry k))) (λ x. fitting RowsShort many (rows_of m x))
-        ≡ then (cond b (unless_rider k (first_fault n e) e) (Err (NoEntry k))) (λ x. fitting RowsShort many (rows_of n x))
-    entry_same true = ap (λ o. then (unless_rider k o e) (λ x. fitting RowsShort many (rows_of m x))) (fault_same e w None 1) ∙ filled_same (first_fault n e)
+    entry_same : (b : Bool) → then (cond b (unless_rider k (first_fault m e) e) (Err (NoEntry k))) (λ x. fitting short many (fill m x))
+        ≡ then (cond b (unless_rider k (first_fault n e) e) (Err (NoEntry k))) (λ x. fitting short many (fill n x))
+    entry_same true = ap (λ o. then (unless_rider k o e) (λ x. fitting short many (fill m x))) (fault_same e w None 1) ∙ filled_same (first_fault n e)
     entry_same false = refl
 
-  pub shown_same : (k many : ℕ) (es : List Records) → AllByRecursion Whole (get_or es (k - 1) []) → shown m k many es ≡ shown n k many es
-  shown_same k many es w = entry_same k many (get_or es (k - 1) []) w (numbered_in k (length es))
+  module _ (k many : ℕ) (es : List Records) (w : AllByRecursion Whole (get_or es (k - 1) [])) where
+    pub shown_same : shown m k many es ≡ shown n k many es
+    shown_same = entry_same RowsShort (λ x. rows_of x) k many (get_or es (k - 1) []) w (rows_same (get_or es (k - 1) []) w 1) (numbered_in k (length es))
+
+    pub copying_same : copying m k many es ≡ copying n k many es
+    copying_same = entry_same CopyShort (λ x. copied x) k many (get_or es (k - 1) []) w (ap crlf_lines (plain_same (get_or es (k - 1) []) w)) (numbered_in k (length es))

@@ -10,7 +10,7 @@ use Rattle.twins.specs.Agreeing.{fault_at}
 use Rattle.twins.specs.Twins.{Follow, Partners}
 use Rattle.law.specs.Archive.{Archive, entries, Call}
 use Rattle.law.specs.Runs.{archive, Made}
-use Rattle.law.specs.TwoRuns.{SameCalls}
+use Rattle.law.specs.TwoRuns.{SameEdition, SameCalls}
 
 -- the records that a number in a refusal names
 abbrev pub entry_at : Archive → ℕ → Records
@@ -35,10 +35,12 @@ pub record CopyGoes (limit : ℕ) (past : List Call) (m : Meaning) (k : ℕ) (be
   -- it is that of the archive which the calls have made
   pub answers : r ≡ copy_answer (archive limit past) m k before
   pub buffer : after ≡ copy_buffer (archive limit past) m k before
-  -- for another depositor of the same calls with twin files the same bytes are written, where the edition knows no spare code
-  pub alike : (spare : ℕ → Bool) (other : ℕ) (others : List Call) → SameCalls spare limit past other others → ((c : ℕ) → spare c ≡ true → m.level c ≡ None)
+  -- for another depositor of the same calls with twin files the same bytes are written, under an edition with the same tables, where that
+  -- knows no spare code
+  pub alike : (spare : ℕ → Bool) (other : ℕ) (others : List Call) (n : Meaning) → SameCalls spare limit past other others → SameEdition m n
+      → ((c : ℕ) → spare c ≡ true → m.level c ≡ None)
       → CopyAlike (Follow spare (entry_at (archive limit past) k) (entry_at (archive other others) k))
-      r after (copy_answer (archive other others) m k before) (copy_buffer (archive other others) m k before)
+      r after (copy_answer (archive other others) n k before) (copy_buffer (archive other others) n k before)
       × Partners spare (entry_at (archive limit past) k) (entry_at (archive other others) k)
   -- and the shelf is still what the same calls have made, so that the list goes on as it was
   pub on : Made limit past rs room
