@@ -222,7 +222,7 @@ impl<S: Shelf + Drop> Archive<S> {
     pub fn bytes(&self, heap: Global) -> Result<Vec<u8>, AllocError>
         ensures { IfOk result (λ b. b.items ≡ flat (S.records self.now.shelf)) }
     {
-        let mut bytes = vec![in heap; 0u8; 80 * self.shelf.count()]?;
+        let mut bytes = vec![in heap; 0u8; 80 * self.count()]?;
         let _ = read_range(&self.shelf, 1, &mut bytes);
         Ok(bytes)
     }
