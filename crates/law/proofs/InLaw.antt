@@ -7,7 +7,6 @@ use Rattle.record.specs.Editions.{Meaning}
 use Rattle.shelf.specs.Records.{Whole, highest}
 use Rattle.sums.specs.declared.Row.{Row}
 use Rattle.trailer.specs.Trailers.{closing_of}
-use Rattle.trailer.proofs.TrailerLaws as trailers
 use Rattle.manual.specs.Slots.{slots}
 use Rattle.manual.specs.Judging.{check_of}
 use Rattle.manual.specs.Laws.{judging}
@@ -20,7 +19,6 @@ use Rattle.filing.specs.Entries.{reads}
 use Rattle.filing.specs.Volumes.{Records, lay, volume, opening, entries_of}
 use Rattle.filing.specs.Laws.{of_entries, taken, closed as closed_records}
 use Rattle.filing.specs.Taking.{by_file, admitted}
-use Rattle.filing.proofs.Opens.{same_entries}
 use Rattle.filing.proofs.Results.{ok_same}
 use Rattle.volume.specs.declared.tokens.OpenVolume.{OpenVolume}
 use Rattle.volume.specs.declared.tokens.Volume.{Volume}
@@ -36,7 +34,7 @@ use Rattle.law.specs.Runs.{archive, Made, Goes, InLaw, EveryRun, tells, told}
 use Rattle.law.specs.Copies.{entry_at, CopyAlike, copy_answer, copy_buffer, CopyInLaw}
 use Rattle.twins.specs.Twins.{Follow}
 use Rattle.law.proofs.Running.{alike, copies_alike}
-use Rattle.law.proofs.Lawful.{places-lie, Sound-in, sound_all, sound_empty, good, found, standing_is, allowed_on, lawful}
+use Rattle.law.proofs.Lawful.{places-lie, Sound-in, sound_all, sound_empty, entries_there, found, standing_is, allowed_on, lawful}
 
 -- LISTS with one call more.
 
@@ -81,9 +79,7 @@ module _ (limit : ℕ) (past : List Call) (rs : Records) (room : ℕ) (made : Ma
 
   -- its entries are those of the archive
   entries_are : entries_of rs ≡ entries (archive limit past)
-  entries_are =
-      ap entries_of made.lies
-      ∙ same_entries reads trailers.laws (entries (archive limit past)) (good (archive limit past).files sound.accepted) small (archive limit past).standing
+  entries_are = ap entries_of made.lies ∙ entries_there (archive limit past) sound
 
   -- and its token says what opening the archive answers
   pub opens : found_on rs room ≡ Ok (of_entries reads (archive limit past).standing (entries (archive limit past)))
@@ -252,6 +248,7 @@ in_law_copied rs room k m before after r is left limit past made =
     let answers : r ≡ copy_answer (archive limit past) m k before = is ∙ ap (λ x. how_many (copying m k (length before) x)) es in
     let buffer : after ≡ copy_buffer (archive limit past) m k before = left ∙ ap (λ x. filled_in (copying m k (length before) x) before) es in
     record {
+      lawful = lawful (archive limit past) (sound limit past rs room made);
       answers = answers;
       buffer = buffer;
       alike = λ spare other others n s e unknown.

@@ -22,7 +22,9 @@ use Rattle.filing.specs.declared.faults.VolumeFault.{VolumeFault}
 use Rattle.filing.specs.declared.standing.Standing.{Standing}
 use Rattle.filing.specs.declared.standing.Standing.TheVariants.{Open, Closed}
 use Rattle.filing.specs.Entries.{reads}
-use Rattle.filing.specs.Volumes.{Records, closing_behind, lay, lay_from, trailer_behind}
+use Rattle.trailer.proofs.TrailerLaws as trailers
+use Rattle.filing.proofs.Opens.{same_entries}
+use Rattle.filing.specs.Volumes.{Records, closing_behind, entries_of, lay, lay_from, trailer_behind}
 use Rattle.filing.specs.Laws.{All-good, Room, of_entries}
 use Rattle.filing.specs.Taking.{by_file, admitted}
 use Rattle.filing.proofs.Fitting.{fits, file_reads}
@@ -54,7 +56,7 @@ use Rattle.showing.proofs.Riders.{never_found}
 use Rattle.law.proofs.OneShown.{shown_of}
 use Rattle.balancing.specs.Balancing.{balance_answer, balance_table}
 use Rattle.law.specs.Archive.{TakenFile, records_of, Archive, empty, entries, places, Call, taking_in, closing, opening_again, showing, fetching, balancing, Answer, rows, bytes, sums, taking, answer, with_file, after, after_all, Allowed, standing_after, AllAllowed}
-use Rattle.law.specs.Law.{Sections, none, more, At, NoneAt, Shows, Sums, shelf_of, OnShelf, Lawful}
+use Rattle.law.specs.Law.{Sections, none, more, At, NoneAt, Shows, SumsUp, shelf_of, OnShelf, Lawful}
 
 -- WHAT STAYS from call to call.
 
@@ -212,6 +214,10 @@ its_reading files k t h at =
     let f = (right ok.0 t.edition t.bytes).accepted ok.1 ok.2 in
     (f.0, f.1)
 
+-- the tree of its reading is that of its records as an entry
+entry_tree : (t : TakenFile) (r : Reading) → Follows t.edition t.bytes r → EntryReads (records_of t) r.tree
+entry_tree t r f = subst (λ x. EntryReads x r.tree) (sym (front_lines t.edition t.bytes r f)) (file_entry t.edition f.lines r.tree f.reads)
+
 -- SHOWING.
 
 module _ (k : ℕ) (m : Meaning) (e : Records) where
@@ -279,9 +285,7 @@ has_sections (t ∷ ts) h =
 -- they are those of the trees of its entries
 in_entries : (files : List TakenFile) (ss : List Section) → Sections files ss → SectionsIn (map records_of files) ss
 in_entries _ _ none = entries_in.none
-in_entries _ _ (more t r ts ss f rest) =
-    let reads_as : EntryReads (records_of t) r.tree = subst (λ x. EntryReads x r.tree) (sym (front_lines t.edition t.bytes r f)) (file_entry t.edition f.lines r.tree f.reads) in
-    entries_in.more (records_of t) r.tree (map records_of ts) ss reads_as (in_entries ts ss rest)
+in_entries _ _ (more t r ts ss f rest) = entries_in.more (records_of t) r.tree (map records_of ts) ss (entry_tree t r f) (in_entries ts ss rest)
 
 -- entries have no more records than their volume
 many_lie : (es : List Records) (k places : ℕ) → length (all_records es) ≤ length (lay_from reads k places es)
@@ -303,7 +307,7 @@ module _ (a : Archive) (h : Sound-in a) (ss : List Section) (of : Sections a.fil
   as_pairs : length (balance_of (entries a)) ≡ pairs ss
   as_pairs = standing_of.many (entries a) ss of_entries_of few_moves
 
-  pub sums_up : Sums a ss
+  pub sums_up : SumsUp a ss
   sums_up = record {
     balance = balance_of (entries a);
     right = standing_of.right (entries a) ss of_entries_of few_moves;
@@ -332,6 +336,9 @@ module _ (a : Archive) (h : Sound-in a) where
     lies = λ i. lay reads (entries a) ++ closing_behind a.standing (many i) (length (lay reads (entries a)));
   }
 
+  pub entries_there : entries_of (shelf_of a) ≡ entries a
+  entries_there = same_entries reads trailers.laws (entries a) (good a.files h.accepted) (omega (arith, h.few, h.bound)) a.standing
+
   pub found : found_on (shelf_of a) a.limit ≡ Ok (of_entries reads a.standing (entries a))
   found = laws.finds reads a.standing a.limit (entries a) (good a.files h.accepted) (omega (arith, h.few, h.bound)) h.room
 
@@ -340,7 +347,10 @@ module _ (a : Archive) (h : Sound-in a) where
 pub lawful : (a : Archive) → Sound-in a → Lawful a
 lawful a h = record {
   reading = λ k t at. its_reading a.files k t h.accepted at;
+  tree = λ k t r at f. entry_tree t r f;
+  checks = λ file m payers. right payers m file;
   holds = on_shelf a h;
+  entries_found = entries_there a h;
   finds = found a h ∙ (λ i. Ok (record { entries = many a h i; last = places-lie a.files i; standing = a.standing }));
   reopens = refl;
   shows = λ k t at m. shows a h k t at m;

@@ -23,7 +23,7 @@ use Rattle.twins.proofs.Sparing.{passes_in, passes_bare}
 use Rattle.law.specs.Archive.{TakenFile, records_of, Archive, empty, entries, places, Call, taking_in, closing, opening_again, showing, fetching, balancing, Answer, taken_in, opened, rows, sums, taking, answer, with_file, AllAllowed, Allowed, after, after_all}
 use Rattle.law.specs.Copies.{entry_at, CopyAlike, copy_answer, copy_buffer}
 use Rattle.law.specs.Runs.{archive, Alike}
-use Rattle.law.specs.TwoRuns.{SameEdition, editions, SameCall, takes_in, closes, opens, shows, fetches, balances, AnswerAlike, both_taken, both_refused, both_marked, both_same, both_closed, both_opened, set_aside, both_balanced, NotFull, NeverFull, named, CallsAlike, RunsAlike, SameCalls, TwoRuns}
+use Rattle.law.specs.TwoRuns.{SameEdition, editions, SameCall, takes_in, closes, opens, shows, fetches, balances, AnswerAlike, both_taken, both_refused, both_marked, both_same, both_closed, both_opened, set_aside, both_balanced, NotFull, NeverFull, numbered_records, CallsAlike, RunsAlike, SameCalls, TwoRuns}
 use Rattle.law.proofs.Lawful.{Sound-in, sound_after, sound_empty, allowed_on}
 use Rattle.law.proofs.SameEditions.{file_whole, check_same, shown_same, copying_same}
 use Rattle.law.proofs.TwinEntries.{TwinFile, entries_alike, entry_alike, entry_partners}
@@ -117,8 +117,8 @@ module _ (spare : ℕ → Bool) (pass : Passes spare bare) where
     pub beside : Beside spare (after a c) (after b d)
 
   -- one that names no records, and changes nothing
-  reads_only : (a b : Archive) (c d : Call) → named a c ≡ [] → named b d ≡ [] → after a c ≡ a → after b d ≡ b → Beside spare a b
-      → AnswerAlike (Follow spare (named a c) (named b d)) (answer a c) (answer b d) → Step a b c d
+  reads_only : (a b : Archive) (c d : Call) → numbered_records a c ≡ [] → numbered_records b d ≡ [] → after a c ≡ a → after b d ≡ b → Beside spare a b
+      → AnswerAlike (Follow spare (numbered_records a c) (numbered_records b d)) (answer a c) (answer b d) → Step a b c d
   reads_only a b c d x y e f h is = record {
     alike = record { answers = is; partners = subst₂ (Partners spare) (sym x) (sym y) (paired spare [] [] refl) };
     beside = subst₂ (Beside spare) (sym e) (sym f) h;

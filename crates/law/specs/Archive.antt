@@ -1,5 +1,6 @@
 -- An archive as its readers know it: the files that were taken in, and what each call answers of them. Nothing here knows of tokens, of
--- a walk from trailer to trailer, or of where an entry lies. It is what the crate `archive` and the calls beside it stand for.
+-- a walk from trailer to trailer, or of where an entry lies. It is what the calls of this crate, and of the
+-- crate `archive`, stand for.
 use Rattle.std.specs.Prelude.{ℕ, ◌+◌, List, [], ◌∷◌, ◌++◌, map, length, Ok, Err, Result}
 use Rattle.field.specs.Chains.{then}
 use Rattle.record.specs.declared.rows.Row.{Row as Shown}

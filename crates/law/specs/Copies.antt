@@ -9,10 +9,11 @@ use Rattle.showing.specs.Showing.{copying, how_many, filled_in}
 use Rattle.twins.specs.Agreeing.{fault_at}
 use Rattle.twins.specs.Twins.{Follow, Partners}
 use Rattle.law.specs.Archive.{Archive, entries, Call}
+use Rattle.law.specs.Law.{Lawful}
 use Rattle.law.specs.Runs.{archive, Made}
 use Rattle.law.specs.TwoRuns.{SameEdition, SameCalls}
 
--- the records that a number in a refusal names
+-- the records of entry k, which a number in a refusal names
 abbrev pub entry_at : Archive → ℕ → Records
 entry_at a k = slice_index_or (entries a) (k - 1) []
 
@@ -32,7 +33,9 @@ copy_buffer a m k buffer = filled_in (copying m k (length buffer) (entries a)) b
 
 -- a plain copy of entry k behind these calls, with the buffer before and after it
 pub record CopyGoes (limit : ℕ) (past : List Call) (m : Meaning) (k : ℕ) (before : List ℕ) (r : Result ℕ VolumeFault) (after : List ℕ) (rs : Records) (room : ℕ) : Type 0 where
-  -- it is that of the archive which the calls have made
+  -- the law holds of the archive which the calls have made
+  pub lawful : Lawful (archive limit past)
+  -- and the copy is that of this archive
   pub answers : r ≡ copy_answer (archive limit past) m k before
   pub buffer : after ≡ copy_buffer (archive limit past) m k before
   -- for another depositor of the same calls with twin files the same bytes are written, under an edition with the same tables, where that

@@ -7,11 +7,14 @@ use Rattle.sums.specs.declared.Row.{Row}
 use Rattle.sums.specs.Table.{zero_row}
 use Rattle.sums.specs.Laws.{Exactly}
 use Rattle.manual.specs.declared.faults.FileFault.{FileFault}
+use Rattle.manual.specs.Accepting.{Right}
+use Rattle.manual.specs.Judging.{check_of}
+use Rattle.manual.specs.Laws.{judging}
 use Rattle.manual.specs.Manual.{Section, Reading, Follows}
 use Rattle.filing.specs.declared.faults.VolumeFault.TheVariants.{NoEntry, Rider, RowsShort, BalanceShort}
 use Rattle.filing.specs.Entries.{reads}
-use Rattle.filing.specs.Readings.{Lie}
-use Rattle.filing.specs.Volumes.{Records, closing_behind, volume}
+use Rattle.filing.specs.Readings.{EntryReads, Lie}
+use Rattle.filing.specs.Volumes.{Records, closing_behind, volume, entries_of}
 use Rattle.volume.specs.Tokens.{found_on}
 use Rattle.report.specs.declared.pairs.Pair.{Pair}
 use Rattle.report.specs.Pairs.{no_pair}
@@ -53,12 +56,12 @@ pub record Shows (a : Archive) (k : ℕ) (t : TakenFile) (m : Meaning) : Type 0 
   pub extends : Extends t.edition m → Finds m (records_of t) → ⊥
 
 -- balancing, where the files that were taken in have these sections
-pub record Sums (a : Archive) (ss : List Section) : Type 0 where
+pub record SumsUp (a : Archive) (ss : List Section) : Type 0 where
   pub balance : List (Row Pair)
-  -- each pair of payee and currency of a section is named exactly once, with its payments less deductions in all of them, which is also
-  -- the sum of its deposits
+  -- each pair of payee and currency of a section is named exactly once, and no other, in order of first appearance, with the plain sums
+  -- of its payments and of its deductions in all of them, whose difference is the plain sum of its deposits
   pub right : Balances ss balance
-  -- so many rows are enough
+  -- it has as many rows as there are distinct pairs
   pub many : length balance ≡ pairs ss
   -- nothing was cut off: at most 500,000 records of at most 9,999,999,999,999 öre or cents each stay below 2^63
   pub below : AllByRecursion (λ (r : Row Pair). (r.added < 2 ^ 63) × (r.taken < 2 ^ 63)) balance
@@ -72,7 +75,7 @@ pub record Sums (a : Archive) (ss : List Section) : Type 0 where
 abbrev pub shelf_of : Archive → Records
 shelf_of a = volume reads a.standing (entries a)
 
--- the same, with what stands in the trailers by the readings of the files
+-- the same, with what stands in the trailers by the trees of the entries
 pub record OnShelf (a : Archive) : Type 0 where
   -- the records that the entries take with their trailers
   pub laid : Records
@@ -85,8 +88,14 @@ pub record OnShelf (a : Archive) : Type 0 where
 pub record Lawful (a : Archive) : Type 0 where
   -- each of its files follows the manual under the edition of its taking in
   pub reading : (k : ℕ) (t : TakenFile) → At k t a.files → (r : Reading) × Follows t.edition t.bytes r
+  -- and the tree of that reading is also that of its records as an entry, so that its trailer has what the reading comes to
+  pub tree : (k : ℕ) (t : TakenFile) (r : Reading) → At k t a.files → Follows t.edition t.bytes r → EntryReads (records_of t) r.tree
+  -- taking any file in begins with checking it, and what that answers is right by the manual
+  pub checks : (file : List ℕ) (m : Meaning) (payers : ℕ) → Right payers m file (check_of (judging payers) m file)
   -- its shelf
   pub holds : OnShelf a
+  -- the entries that are found there are the records of its files, in order; so what a call says of entries found it says of these
+  pub entries_found : entries_of (shelf_of a) ≡ entries a
   -- opening the shelf anew is never refused, and finds how many entries there are, the place of the last trailer, and open or closed; so
   -- it finds the token in hand, which is the shelf's own
   pub finds : found_on (shelf_of a) a.limit ≡ Ok (record { entries = length a.files; last = places a.files; standing = a.standing })
@@ -101,4 +110,4 @@ pub record Lawful (a : Archive) : Type 0 where
   pub fetches_nowhere : (k n : ℕ) (out : List ℕ) → NoneAt k a.files → answer a (fetching k n out) ≡ bytes (Err (NoEntry k)) out
   -- balancing
   pub sections : (ss : List Section) × Sections a.files ss
-  pub balances : (ss : List Section) → Sections a.files ss → Sums a ss
+  pub balances : (ss : List Section) → Sections a.files ss → SumsUp a ss

@@ -45,7 +45,7 @@ pub record Goes (limit : ℕ) (past : List Call) (c : Call) (a : Answer) (rs : R
 -- THE CLAUSE of each call: whatever list of calls, on a shelf of whatever limit that was empty, has led to the shelf; with its records
 -- and room before and after the call
 abbrev pub InLaw : Records → ℕ → Call → Answer → Records → ℕ → Type 0
-InLaw rs room c a after later = (limit : ℕ) (past : List Call) → Made limit past rs room → Goes limit past c a after later
+InLaw rs room c a left left_room = (limit : ℕ) (past : List Call) → Made limit past rs room → Goes limit past c a left left_room
 
 -- every list of calls on an empty shelf makes an archive of which the law holds
 pub record EveryRun : Type 0 where

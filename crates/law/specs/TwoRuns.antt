@@ -66,19 +66,20 @@ abbrev pub NeverFull : Archive → List Call → Type 0
 NeverFull a [] = Unit {0}
 NeverFull a (c ∷ cs) = NotFull (answer a c) × NeverFull (after a c) cs
 
--- the records that the numbers in an answer name: of the file that is taken in, or of the entry that is shown
-abbrev pub named : Archive → Call → Records
-named a (taking_in file m payers) = records_in file
-named a closing = []
-named a opening_again = []
-named a (showing k m table) = slice_index_or (entries a) (k - 1) []
-named a (fetching k n out) = []
-named a (balancing table) = []
+-- the records that the numbers in an answer name: of the file that is taken in, or of the entry that is shown; where there is no such
+-- entry the answer has no number
+abbrev pub numbered_records : Archive → Call → Records
+numbered_records a (taking_in file m payers) = records_in file
+numbered_records a closing = []
+numbered_records a opening_again = []
+numbered_records a (showing k m table) = slice_index_or (entries a) (k - 1) []
+numbered_records a (fetching k n out) = []
+numbered_records a (balancing table) = []
 
 -- the call c of one archive and d of another have answers that are alike, where the numbers in them follow and fix each other
 pub record CallsAlike (spare : ℕ → Bool) (a b : Archive) (c d : Call) (x y : Answer) : Type 0 where
-  pub answers : AnswerAlike (Follow spare (named a c) (named b d)) x y
-  pub partners : Partners spare (named a c) (named b d)
+  pub answers : AnswerAlike (Follow spare (numbered_records a c) (numbered_records b d)) x y
+  pub partners : Partners spare (numbered_records a c) (numbered_records b d)
 
 -- the answers to two lists of calls, one by one
 abbrev pub RunsAlike : (ℕ → Bool) → Archive → Archive → List Call → List Call → Type 0
@@ -88,7 +89,7 @@ RunsAlike spare a b (c ∷ cs) [] = ⊥
 RunsAlike spare a b (c ∷ cs) (d ∷ ds) = CallsAlike spare a b c d (answer a c) (answer b d) × RunsAlike spare (after a c) (after b d) cs ds
 
 -- calls ds on an empty shelf of one limit are the calls cs on one of another, but for files that are twins by spare codes, and no answer in
--- either is 11 or 22; what the list cs itself needs is asked where it is used
+-- either is 11 or 22; that cs is itself a list of calls on an empty shelf that opens is asked by whoever uses this
 pub record SameCalls (spare : ℕ → Bool) (limit : ℕ) (cs : List Call) (other : ℕ) (ds : List Call) : Type 0 where
   -- a spare code is neither core nor known to an edition in either list; calls to come may bring more editions, and leave fewer codes spare
   pub spares : (c : ℕ) → spare c ≡ true → spare_in (editions cs ++ editions ds) c ≡ true

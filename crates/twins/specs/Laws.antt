@@ -1,4 +1,4 @@
--- What holds of twin files, under every edition that knows no spare code and with any payer table.
+-- What holds of twin files, under every edition that knows no spare code and with any payer table, or payers not judged.
 use Rattle.std.specs.Prelude.{◌≡◌, ℕ, Bool, List, map, Some, slice_get}
 use Rattle.record.specs.Classes.{class_of}
 use Rattle.record.specs.Editions.{Meaning, bare}

@@ -8,7 +8,7 @@ use Rattle.filing.specs.declared.faults.VolumeFault.TheVariants.{Rider}
 abbrev pub NotWrong : Result ℕ VolumeFault → Type 0
 NotWrong r = (k : ℕ) (f : FileFault) → r ≡ Err (Rider k f) → ⊥
 
--- both have as many rows, or neither has any
+-- both are shown in as many rows, or neither is shown
 abbrev pub EqualCounts : Result ℕ VolumeFault → Result ℕ VolumeFault → Type 0
 EqualCounts (Ok n) (Ok k) = n ≡ k
 EqualCounts (Ok n) (Err f) = ⊥
