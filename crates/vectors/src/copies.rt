@@ -44,7 +44,12 @@ fn filled_with(letter: u8, byte: u8) -> [u8; 80] {
 }
 
 // A file of such records, each with this line end.
-fn file_with(heap: Global, letters: &[u8], end: &[u8], byte: u8) -> Result<Vec<u8>, AllocError> {
+pub(crate) fn file_with(
+    heap: Global,
+    letters: &[u8],
+    end: &[u8],
+    byte: u8,
+) -> Result<Vec<u8>, AllocError> {
     let mut bytes = Vec::new(heap);
     for letter in letters {
         bytes.extend_from_slice(&filled_with(*letter, byte))?;
@@ -58,15 +63,15 @@ const SHORT: &str = "27, volume, 410 bytes needed: copy buffer short";
 const ONE_MORE: &str = "27, volume, 492 bytes needed: copy buffer short";
 
 // A record's line end, and what stands in its reserve positions.
-type Dress = (&'static [u8], u8);
+pub(crate) type Dress = (&'static [u8], u8);
 
-const PLAIN: Dress = (b"\n", b' ');
+pub(crate) const PLAIN: Dress = (b"\n", b' ');
 
-const CR_LF: Dress = (b"\r\n", b' ');
+pub(crate) const CR_LF: Dress = (b"\r\n", b' ');
 
-const DIGITS: Dress = (b"\r\n", b'0');
+pub(crate) const DIGITS: Dress = (b"\r\n", b'0');
 
-const HIGHEST: Dress = (b"\n", b'\xff');
+pub(crate) const HIGHEST: Dress = (b"\n", b'\xff');
 
 // the records of entry 1 and how they come; the edition, the bytes that are lent, the answer, and the records of the copy
 const COPIED: [(&[u8], Dress, Under, usize, &str, &[u8]); 18] = [

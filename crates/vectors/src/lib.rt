@@ -2,6 +2,8 @@
 #![tactic(auto)]
 
 #[cfg(test)]
+mod balances;
+#[cfg(test)]
 mod checks;
 #[cfg(test)]
 mod copies;
@@ -13,11 +15,17 @@ mod fields;
 #[cfg(test)]
 mod files;
 #[cfg(test)]
+mod free_codes;
+#[cfg(test)]
 mod letters;
+#[cfg(test)]
+mod mixes;
 #[cfg(test)]
 mod readings;
 #[cfg(test)]
 mod records;
+#[cfg(test)]
+mod sections;
 #[cfg(test)]
 mod shelves;
 #[cfg(test)]
@@ -27,6 +35,8 @@ mod strangers;
 #[cfg(test)]
 mod tables;
 mod tokens;
+#[cfg(test)]
+mod twinned;
 #[cfg(test)]
 mod volumes;
 

@@ -19,7 +19,7 @@ pub(crate) fn told(heap: Global, fault: VolumeFault) -> Result<String, AllocErro
     Refusal::from(fault).to_string(heap)
 }
 
-fn found(heap: Global, opened: Opened) -> Result<String, AllocError> {
+pub(crate) fn found(heap: Global, opened: Opened) -> Result<String, AllocError> {
     let standing = match opened.standing {
         Standing::Open => "open",
         Standing::Closed => "closed",
@@ -43,7 +43,7 @@ pub(crate) enum Call<'a> {
     OpenAgain,
 }
 
-fn taken(heap: Global, answer: Result<usize, NotLaid>) -> Result<String, AllocError> {
+pub(crate) fn taken(heap: Global, answer: Result<usize, NotLaid>) -> Result<String, AllocError> {
     match answer {
         Ok(entry) => format!(in heap; "entry {entry}"),
         Err(NotLaid::Refused(fault)) => told(heap, fault),
@@ -52,7 +52,7 @@ fn taken(heap: Global, answer: Result<usize, NotLaid>) -> Result<String, AllocEr
 }
 
 // Makes one call, and tells its answer: after closing and opening again what the token then says.
-fn make<S: Shelf + Drop>(
+pub(crate) fn make<S: Shelf + Drop>(
     heap: Global,
     mut archive: Archive<S>,
     call: Call<'_>,
@@ -237,7 +237,7 @@ fn on_two_shelves(rt: HostRuntime) -> Result<(), Fail> {
     Ok(())
 }
 
-fn fetched(heap: Global, answer: Result<(), VolumeFault>) -> Result<String, AllocError> {
+pub(crate) fn fetched(heap: Global, answer: Result<(), VolumeFault>) -> Result<String, AllocError> {
     match answer {
         Ok(()) => String::from_str(heap, "fetched"),
         Err(fault) => told(heap, fault),
