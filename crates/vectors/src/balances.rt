@@ -1,7 +1,7 @@
 // Volumes balanced: the rows of payees and currencies, and what too short a table leaves.
-use crate::letters::shelf_of;
+use crate::letters::{file_of as file_of_letters, shelf_of};
 use crate::sections::{Section, file_of};
-use crate::showings::answered;
+use crate::showings::{ALL_FORMS, KINDS, answered, archive_with};
 use archive::Archive;
 use field::Currency;
 use field::Currency::{Eur, Sek};
@@ -252,6 +252,30 @@ fn rows(rt: HostRuntime) -> Result<(), Fail> {
         balance_as(&rt, heap, &archive, lent, answer, filled)?;
         let (archive, _) = archive.close();
         balance_as(&rt, heap, &archive, lent, answer, filled)?;
+    }
+    Ok(())
+}
+
+// the records of entry 1, and its rows: neither extra references nor riders or unknown records enter anything, whatever they look
+// like
+const OTHERS: [(&[u8], &str, &[Sums]); 4] = [
+    (
+        ALL_FORMS,
+        "2 filled",
+        &[(4711, Sek, 9_999_999_999_999, 0), (4711, Eur, 125_023, 32)],
+    ),
+    (KINDS, "1 filled", &[(4711, Sek, 125_000, 0)]),
+    (b"SXOXPXDXEX", "1 filled", &[(4711, Sek, 125_000, 0)]),
+    (b"S7O8P9DEtc", "1 filled", &[(4711, Sek, 125_000, 0)]),
+];
+
+#[test]
+fn other_records(rt: HostRuntime) -> Result<(), Fail> {
+    let heap = rt.alloc();
+    for (letters, answer, filled) in OTHERS {
+        let mut places = shelf_of(heap, b"", 20)?;
+        let archive = archive_with(&rt, &mut places, &file_of_letters(heap, letters)?)?;
+        balance_as(&rt, heap, &archive, 6, answer, filled)?;
     }
     Ok(())
 }
