@@ -174,31 +174,54 @@ fn all_calls<A: Shelf + Drop, B: Shelf + Drop>(
     Ok(())
 }
 
-// While both volumes are open, opened again, and closed. Each is then brought the other's file, which has the time stamp of its
-// own.
+// A volume with the file as entry 1, to which its twin is then brought, which has the time stamp of that entry.
+fn archive_of<'a>(
+    rt: &impl Abort,
+    heap: Global,
+    places: &'a mut [u8],
+    file: &[u8],
+    twin: &[u8],
+) -> Result<Archive<MemoryShelf<'a>>, Fail> {
+    let mut archive = Archive::open(MemoryShelf::new(places, 0))?;
+    assert_eq!(rt; take(heap, &mut archive, file)?.as_str(), "entry 1");
+    let there = "21, volume, entry 1: time stamp already there";
+    assert_eq!(rt; take(heap, &mut archive, twin)?.as_str(), there);
+    Ok(archive)
+}
+
+// Closes the volume, which has one entry.
+fn closed<S: Shelf + Drop>(rt: &impl Abort, archive: Archive<S>) -> Archive<S> {
+    let (archive, entries) = archive.close();
+    assert_eq!(rt; entries, Ok(1));
+    archive
+}
+
+// While both volumes are open, opened again, and closed.
+fn all_standings<A: Shelf + Drop, B: Shelf + Drop>(
+    rt: &impl Abort,
+    heap: Global,
+    first: Archive<A>,
+    second: Archive<B>,
+    numbers: (&[usize], &[usize]),
+) -> Result<(), Fail> {
+    all_calls(rt, heap, &first, &second, numbers)?;
+    let (first, second) = (first.reopen(), second.reopen());
+    all_calls(rt, heap, &first, &second, numbers)?;
+    let (first, second) = (closed(rt, first), closed(rt, second));
+    all_calls(rt, heap, &first, &second, numbers)
+}
+
 #[test]
 fn alike(rt: HostRuntime) -> Result<(), Fail> {
     let heap = rt.alloc();
     for (side, other_side) in TWINS {
-        let numbers = (side.1, other_side.1);
         let file = file_of_parts(heap, side.0)?;
         let twin = file_of_parts(heap, other_side.0)?;
         let mut places = shelf_of(heap, b"", 20)?;
         let mut other_places = shelf_of(heap, b"", 20)?;
-        let mut first = Archive::open(MemoryShelf::new(&mut places, 0))?;
-        let mut second = Archive::open(MemoryShelf::new(&mut other_places, 0))?;
-        assert_eq!(rt; take(heap, &mut first, &file)?.as_str(), "entry 1");
-        assert_eq!(rt; take(heap, &mut second, &twin)?.as_str(), "entry 1");
-        let there = "21, volume, entry 1: time stamp already there";
-        assert_eq!(rt; take(heap, &mut first, &twin)?.as_str(), there);
-        assert_eq!(rt; take(heap, &mut second, &file)?.as_str(), there);
-        all_calls(&rt, heap, &first, &second, numbers)?;
-        let (first, second) = (first.reopen(), second.reopen());
-        all_calls(&rt, heap, &first, &second, numbers)?;
-        let (first, closed) = first.close();
-        let (second, other_closed) = second.close();
-        assert_eq!(rt; (closed, other_closed), (Ok(1), Ok(1)));
-        all_calls(&rt, heap, &first, &second, numbers)?;
+        let first = archive_of(&rt, heap, &mut places, &file, &twin)?;
+        let second = archive_of(&rt, heap, &mut other_places, &twin, &file)?;
+        all_standings(&rt, heap, first, second, (side.1, other_side.1))?;
     }
     Ok(())
 }
