@@ -6,8 +6,8 @@ ghost use Rattle.archive.specs.Archives.{closing_answer};
 ghost use Rattle.tifrozel.specs.Commands.{Does, Kept, Lays, Leaves, LeavesTaking, LeavesClosing, file_answer};
 
 use crate::answers::{Done, Undone, bytes_of, entries, not_run, refused, say};
-use crate::disk::replace;
 use crate::balances::balance;
+use crate::disk::replace;
 use crate::reading::{fetch, plain, show};
 use crate::requests::{AtShelf, FileAsked};
 use crate::words::EditionName;
