@@ -1,15 +1,20 @@
 // Calls where more than one token is at hand. Each call gets the one that is its shelf's own, as the shelf is at the call. The
 // edits in must-fail/ hand over another, and then nothing proves that it is the own one.
-ghost use Rattle.std.specs.Prelude.{◌≡◌, IfSome};
+ghost use Rattle.std.specs.Prelude.{◌≡◌, length, IfSome};
+ghost use Rattle.record.specs.Editions.{bare};
 ghost use Rattle.filing.specs.Volumes.{entries_of};
 ghost use Rattle.volume.specs.Taking.{fetched, fetch_answer};
 ghost use Rattle.volume.specs.Tokens.{OwnOpen, OwnClosed};
+ghost use Rattle.showing.specs.Showing.{shown, how_many};
+ghost use Rattle.balancing.specs.Balancing.{balanced, balance_answer};
 
 use filing::VolumeFault;
-use record::Bare;
+use law::{balance, close, fetch, open, show, take_in};
+use record::{Bare, Row as Shown};
+use report::Pair;
 use shelf::Shelf;
 use sums::Row;
-use volume::{ClosedVolume, OpenVolume, Volume, close, fetch, open, take_in};
+use volume::{ClosedVolume, OpenVolume, Volume};
 
 // Takes the file in on two shelves, and answers their tokens afterwards; none where one of the two is not an open volume.
 pub fn take_in_on_both<A: Shelf, B: Shelf>(
@@ -125,4 +130,45 @@ pub fn close_and_fetch<S: Shelf>(
     };
     let closed = Volume::Closed(close(shelf, token));
     Some(fetch(shelf, &closed, 1, 1, out))
+}
+
+// Takes a file in, and balances; none where the shelf is not an open volume. The older token is let go.
+pub fn take_in_and_balance<S: Shelf>(
+    shelf: &mut S,
+    file: &[u8],
+    rows: &mut [Row<Pair>],
+) -> Option<Result<usize, VolumeFault>>
+    ensures { IfSome result (λ r. r ≡ balance_answer (balanced (length rows.old) (entries_of (S.records shelf.new)))) }
+{
+    let mut payers = [Row::zero()];
+    let Ok(old) = open(shelf) else {
+        return None;
+    };
+    let Ok(Volume::Open(mut token)) = open(shelf) else {
+        return None;
+    };
+    let _ = take_in(shelf, &mut token, file, &Bare, &mut payers);
+    let taken = Volume::Open(token);
+    Some(balance(shelf, &taken, rows))
+}
+
+// Shows entry 1 of two shelves under the bare edition; none where one of the two is no volume.
+pub fn show_both<A: Shelf, B: Shelf>(
+    first: &A,
+    second: &B,
+    rows: &mut [Shown],
+    other_rows: &mut [Shown],
+) -> Option<(Result<usize, VolumeFault>, Result<usize, VolumeFault>)>
+    ensures first { IfSome result (λ r. r.0 ≡ how_many (shown bare 1 (length rows.old) (entries_of (A.records first.now)))) }
+    ensures second { IfSome result (λ r. r.1 ≡ how_many (shown bare 1 (length other_rows.old) (entries_of (B.records second.now)))) }
+{
+    let Ok(token) = open(first) else {
+        return None;
+    };
+    let Ok(other) = open(second) else {
+        return None;
+    };
+    let answer = show(first, &token, 1, &Bare, rows);
+    let other_answer = show(second, &other, 1, &Bare, other_rows);
+    Some((answer, other_answer))
 }
