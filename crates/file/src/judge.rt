@@ -47,7 +47,7 @@ pub struct Item {
 }
 
 // What is known of a file behind its last record.
-#[derive(Drop)]
+#[derive(Clone, Copy, Drop)]
 pub struct Judge<P> {
     pub place: Place,
     pub counts: End,

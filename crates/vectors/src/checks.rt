@@ -1,6 +1,6 @@
 // Whole files, each record written as a letter.
-use file::check;
-use manual::FileFault;
+use file::{Judge, Lines, NotJudged, check};
+use manual::{FileFault, Place};
 use record::{Bare, End, House};
 use refusal::Refusal;
 use std::alloc::{AllocError, Global};
@@ -344,4 +344,16 @@ fn long_files(rt: HostRuntime) -> Result<(), Fail> {
         assert_eq!(rt; checked(rt.alloc(), &bytes, payers, Under::House)?, answer);
     }
     Ok(())
+}
+
+// A judge of no payers is plain data: its copy goes on by itself.
+#[test]
+fn judge_copied(rt: HostRuntime) {
+    let judge = Judge::new(NotJudged);
+    let mut copy = judge;
+    for line in Lines::new(LINES[0].1) {
+        assert!(rt; copy.read(1, line, &Bare).is_ok());
+    }
+    assert_eq!(rt; judge.place, Place::Fresh);
+    assert_eq!(rt; copy.place, Place::Begun);
 }
