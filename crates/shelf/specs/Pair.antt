@@ -72,15 +72,22 @@ module _ (p : Parts) where
         | false ↦ λ _. omega arith
       ] both
 
--- Two shelves that keep the laws keep them as one.
+module _ {J A B : Type 0} {ra : A → List (List ℕ)} {ma : A → ℕ} {rb : B → List (List ℕ)} {mb : B → ℕ} {sa : A → A → Type 0} {sb : B → B → Type 0} where
+  -- Two shelves that keep the laws keep them as one, whatever holds the two.
+  pub laws_of_two : (f : J → A) (s : J → B) → Laws ra ma sa → Laws rb mb sb → Laws
+      (λ j. pair_records (record { m = ma (f j); n = mb (s j); xs = ra (f j); ys = rb (s j) }))
+      (λ j. pair_room (record { m = ma (f j); n = mb (s j); xs = ra (f j); ys = rb (s j) }))
+      (λ i j. sa (f i) (f j) × sb (s i) (s j))
+  laws_of_two f s la lb =
+      let p : J → Parts = λ j. record { m = ma (f j); n = mb (s j); xs = ra (f j); ys = rb (s j) } in
+      record {
+        whole = λ j. pair_whole (p j) (la.whole (f j)) (lb.whole (s j));
+        inside = λ j. pair_inside (p j);
+        bound = λ j. pair_bound (p j) (la.inside (f j)) (lb.inside (s j)) (la.bound (f j));
+        same_refl = λ j. (la.same_refl (f j), lb.same_refl (s j));
+        same_trans = λ i j k x y. (la.same_trans (f i) (f j) (f k) x.0 y.0, lb.same_trans (s i) (s j) (s k) x.1 y.1);
+      }
+
+-- That of a pair.
 pub pair_laws : {A B : Type 0} (a : Ghosts A) (b : Ghosts B) → Laws (λ j. pair_records (parts a b j)) (λ j. pair_room (parts a b j)) (λ i j. a.same i.first j.first × b.same i.second j.second)
-pair_laws a b =
-    let inside_first = a.laws.inside in
-    let inside_second = b.laws.inside in
-    record {
-      whole = λ j. pair_whole (parts a b j) (a.laws.whole j.first) (b.laws.whole j.second);
-      inside = λ j. pair_inside (parts a b j);
-      bound = λ j. pair_bound (parts a b j) (inside_first j.first) (inside_second j.second) (a.laws.bound j.first);
-      same_refl = λ j. (a.laws.same_refl j.first, b.laws.same_refl j.second);
-      same_trans = λ i j k p q. (a.laws.same_trans i.first j.first k.first p.0 q.0, b.laws.same_trans i.second j.second k.second p.1 q.1);
-    }
+pair_laws a b = laws_of_two (λ j. j.first) (λ j. j.second) a.laws b.laws
