@@ -1,10 +1,11 @@
-use Rattle.std.proofs.Common.{◌≡◌, ◌+◌, [], ap, ◌∙◌, sym, arith, Ok, Err}
+use Rattle.std.proofs.Common.{◌≡◌, ◌+◌, [], ap, ◌∙◌, sym, arith, rules, Ok, Err}
 use Rattle.std.specs.List.{between}
 use Rattle.std.proofs.lemmas.Result.{err_from_is_err_and}
 use Rattle.record.specs.Classes.{class_of}
 use Rattle.record.specs.Editions.{bare}
 use Rattle.manual.specs.Laws.{not_judging}
 use Rattle.file.specs.Judges.{held_by, read_step, finished}
+use Rattle.file.specs.Lines.{slot_in}
 use Rattle.filing.specs.Entries.{slot_of, deposits_behind, deposits_from}
 use Rattle.entries.proofs.Entries.{read-stop, read_on, read_end, read_unended, left_from, left-next, left-none}
 use Rattle.entries.proofs.reading.read_entry.Goals as goal
@@ -17,7 +18,7 @@ returns-in_err-read g c =
     let next = left-next rs c.args.before c.args.count c.requires n (omega arith) (omega (arith, c.loop-i-test.true)) in
     let refused = err_from_is_err_and c.from_residual.result c.from_residual.ensures.1 in
     let item = c.line_of.ensures ∙ ap slot_of c.record_at-item.ensures in
-    refused.1 ∙ ap Err refused.2 ∙ read-stop _ _ n s c.loop-i.invariant.0 _ _ next _ (c.in_err-read.ensures.state ∙ ap (read_step not_judging bare n s) item)
+    refused.1 ∙ ap Err refused.2 ∙ read-stop _ _ n s c.loop-i.invariant.0 _ _ next _ (c.in_err-read.ensures.state ∙ ap (λ k. read_step not_judging bare k s (slot_in c.line_of.result)) (search rules) ∙ ap (read_step not_judging bare n s) item)
 
 pub loop-i-preserved : goal.loop-i-preserved
 loop-i-preserved g c =
@@ -29,7 +30,7 @@ loop-i-preserved g c =
     let item = c.line_of.ensures ∙ ap slot_of c.record_at-item.ensures in
     let later = left_from rs c.args.before c.args.count (n + 1) in
     let sums = ap (λ x. deposits_from x later) (c.add_deposit.ensures ∙ ap (λ r. deposits_behind c.loop-i.deposits (class_of bare r)) c.record_at-item.ensures) in (
-      read_on es _ n s c.loop-i.invariant.0 _ _ next (held_by c.read.new.self []) (c.in_ok-read.ensures.state ∙ ap (read_step not_judging bare n s) item),
+      read_on es _ n s c.loop-i.invariant.0 _ _ next (held_by c.read.new.self []) (c.in_ok-read.ensures.state ∙ ap (λ k. read_step not_judging bare k s (slot_in c.line_of.result)) (search rules) ∙ ap (read_step not_judging bare n s) item),
       sums ∙ ap (deposits_from c.loop-i.deposits) (sym next) ∙ c.loop-i.invariant.1,
     )
 
